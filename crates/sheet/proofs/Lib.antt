@@ -1,0 +1,14 @@
+pub mod Induction
+pub mod Moved
+pub mod Notions
+pub mod Walk
+pub mod Stands
+pub mod Here
+pub mod Whole
+pub mod ReadBack
+pub mod ProperRead
+pub mod ProperBytes
+pub mod Early
+pub mod OnlyBytes
+pub mod Reading
+pub mod Answers

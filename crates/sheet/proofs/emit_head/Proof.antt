@@ -1,0 +1,56 @@
+-- The signal that was read decides: none, then its fault; tick or an input, then EMIT; else the emit.
+use borrow.Author.Tests.{le-leb, lt-leb}
+use mathlib.Core.Path.{sym, _∙_}
+use Rattle.number.specs.Number.{pick}
+use Rattle.sheet.specs.Read.{emitting}
+use borrow.Author.Needs.{needs}
+use Rattle.sheet.proofs.emit_head.Statement.{statement}
+use Rattle.sheet.proofs.emit_head.Tie as tie
+
+read-signal-requires : tie.Need-read-signal-requires
+read-signal-requires c κs = search needs
+
+enum-known-f : tie.Need-enum-known-f
+enum-known-f c = search needs
+
+enum-known-x : tie.Need-enum-known-x
+enum-known-x c = search needs
+
+number-requires : tie.Need-number-requires
+number-requires c κs = search needs
+
+refused-requires : tie.Need-refused-requires
+refused-requires c κs = search needs
+
+returns : tie.Need-returns
+unfolding emitting pick
+returns c =
+    let after-signal = c .before .before .before .before .before .before .before in
+    let signal = sym (after-signal .read-signal .ensures) ∙ c .before .before .before .before .before .x .given .1 in
+    c .refused .ensures ∙ simp (signal, le-leb _ _ (rw (c .before .before .before .number .ensures) at (c .before .if1 .taken)))
+
+returns-2 : tie.Need-returns-2
+unfolding emitting
+returns-2 c =
+    let signal = sym (c .before .before .before .read-signal .ensures) ∙ c .before .f .given .1 in
+    simp signal
+
+returns-3 : tie.Need-returns-3
+unfolding emitting pick
+returns-3 c =
+    let after-signal = c .before .before .before .before .before .before in
+    let signal = sym (after-signal .read-signal .ensures) ∙ c .before .before .before .before .x .given .1 in
+    simp (signal, lt-leb _ _ (rw (c .before .before .number .ensures) at (c .if1 .left)))
+
+pub emit-head-spec : {M : Type 1} → statement M
+emit-head-spec =
+    tie.close
+    (tie.spec
+    read-signal-requires
+    enum-known-f
+    enum-known-x
+    number-requires
+    refused-requires
+    returns
+    returns-2
+    returns-3)

@@ -1,0 +1,5 @@
+pub mod Stmt
+pub mod Read
+pub mod Rows
+pub mod Answer
+pub mod Form
