@@ -3,7 +3,13 @@
 use Prim.Native.Nat.{ℕ, _/_, _%_, _^_}
 use mathlib.Core.Bool.{Bool}
 use lib.Dec.{eqb}
+use Rattle.number.specs.declared.SignalNo.{SignalNo}
+use Rattle.number.specs.Counts.{ofSignal}
 
 -- whether k is in the set w
 unfoldable pub has : ℕ → ℕ → Bool
 has w k = eqb (w / 2 ^ k % 2) 1
+
+-- "signal s at bit s": the signals in a word
+abbrev pub signalsIn : ℕ → SignalNo → Bool
+signalsIn w s = has w (ofSignal s)

@@ -1,11 +1,37 @@
--- The table holds: each row's columns are what the definitions compute of its sheet.
+-- The table holds: each row's columns are what the definitions compute of its sheet, events, sets, states and values. And P5's cells have no answer
+-- but CYCLE 2.
 use mathlib.Core.Path.{_≡_, refl}
-use mathlib.Core.List.{map}
+use mathlib.Core.List.{List, map}
+use Prim.Native.Nat.{ℕ}
 use Rattle.number.specs.Number.{numberAt, pick}
-use Rattle.sheet.specs.Stmt.{size}
+use Rattle.bits.specs.Bits.{has}
+use Rattle.sheet.specs.Stmt.{size, haltCount, localCount}
 use Rattle.sheet.specs.Read.{signalOf, naming, emitting, exiting, haltAt, localAt, trapAt, ofKind, headOfKind, inside, andThen, parts, readStmt, ended, rootRead, afterOutputs, afterInputs, readSheet}
-use Rattle.paper.specs.Cases.{Case, reading, cases}
+use Rattle.sets.specs.Static.{K, R, hasHalts}
+use Rattle.sets.specs.Faults.{orElse, instant, climbs, firstFault, twice}
+use Rattle.sets.specs.Words.{wordOf}
+use Rattle.rules.specs.Rules.{start, active, resume}
+use Rattle.rules.specs.States.{react, noBits, apart, fits}
+use Rattle.number.specs.Counts.{cellNo}
+use Rattle.gates.specs.Cells.{orAt, andAt, butnotAt}
+use Rattle.gates.specs.Rows.{orRow, pairs, highest, parallelRow}
+use Rattle.gates.specs.Values.{registers, operands}
+use Rattle.builder.specs.Equations.{build, buildHalt, buildEmit, buildSequence, buildLoop, buildPresent, buildWatching, buildParallel, buildTrap}
+use Rattle.builder.specs.Netlist.{netlist, rootOf, inputCells, signalCells}
+use Rattle.order.specs.declared.Ordering.{Ordering}
+use Rattle.order.specs.declared.Ordering.the-variants.{Cycle}
+use Rattle.order.specs.Paths.{Answers}
+use Rattle.order.proofs.Cases.{p5-answer}
+use Rattle.paper.specs.Cases.{reading, faultOf, answered, agreeing, moments, runsOf, statesOf, solving, clocks, cellsOf, clocksOf, computed, cases, p5Sheet}
 
-pub paper : map (λ (k : Case). reading (readSheet (k .bytes))) cases ≡ map (λ (k : Case). k .read) cases
-unfolding reading size numberAt pick signalOf naming emitting exiting haltAt localAt trapAt ofKind headOfKind inside andThen parts readStmt ended rootRead afterOutputs afterInputs readSheet
-paper = refl
+pub record Paper : Type 0 where
+  pub table : map computed cases ≡ cases
+  pub cycle : (order : List ℕ) (r : Ordering) → Answers (cellsOf (readSheet p5Sheet)) order r → r ≡ Cycle (cellNo 2)
+
+pub paper : Paper
+unfolding numberAt pick has size haltCount localCount signalOf naming emitting exiting haltAt localAt trapAt ofKind headOfKind inside andThen parts
+    readStmt ended rootRead afterOutputs afterInputs readSheet K R hasHalts orElse instant climbs firstFault twice wordOf start active resume react
+    noBits apart fits reading faultOf answered agreeing moments runsOf statesOf orAt andAt butnotAt orRow pairs highest parallelRow registers operands
+    build buildHalt buildEmit buildSequence buildLoop buildPresent buildWatching buildParallel buildTrap netlist rootOf inputCells signalCells solving
+    clocks cellsOf clocksOf computed
+paper = record { table = refl; cycle = p5-answer }

@@ -1,9 +1,26 @@
 -- "Sheets to try (marked P: proved)": P1 to P12 as one table, a row for each sheet, and what the definitions say of a row.
-use mathlib.Core.List.{List, [], _∷_}
-use Prim.Native.Nat.{ℕ}
+use mathlib.Core.Bool.{Bool, true, false, _&&_, _||_, Bool·beq}
+use mathlib.Core.List.{List, [], _∷_, map}
+use Prim.Native.Nat.{ℕ, zero, suc, _+_}
+use lib.ListN.{length}
+use Rattle.number.specs.declared.CellNo.{CellNo}
+use Rattle.number.specs.Counts.{signalNo, stmtNo, ofStmt, cellNo, ofCell}
 use Rattle.number.specs.Refusals.{refusalNo}
-use Rattle.sheet.specs.Stmt.{size}
-use Rattle.sheet.specs.Read.{SheetOutcome, sheet, faulty, readSheet}
+use Rattle.number.specs.declared.Refusal.the-variants.{Instant, Twice}
+use Rattle.bits.specs.Bits.{has, signalsIn}
+use Rattle.sheet.specs.Stmt.{Stmt, size, localCount}
+use Rattle.sheet.specs.Read.{only, SheetOutcome, sheet, faulty, readSheet}
+use Rattle.sets.specs.declared.Found.{Found}
+use Rattle.sets.specs.declared.Found.the-variants.{At, Clear}
+use Rattle.sets.specs.Faults.{instant, twice}
+use Rattle.sets.specs.Words.{wordOf}
+use Rattle.rules.specs.Rules.{Outcome}
+use Rattle.rules.specs.States.{tick, react, nextState, fits}
+use Rattle.gates.specs.declared.Cell.{Cell}
+use Rattle.gates.specs.declared.Cell.the-variants.{Low, High, Input, Or, And, Butnot, Register}
+use Rattle.gates.specs.Values.{registers, before, cellAt, value, operands, nextOf}
+use Rattle.builder.specs.Netlist.{sheetNetlist, netlist}
+use Rattle.run.specs.Words.{outputsOf}
 
 -- what reading answers: "0 is acceptance, place 0, with statement .. counts", "a refusal's counts .. are 0"
 pub record Reading : Type 0 where
@@ -16,41 +33,229 @@ unfolding size
 reading (sheet w) = record { number = 0; place = 0; statements = size (w .root) }
 reading (faulty f) = record { number = refusalNo (f .refusal); place = f .place; statements = 0 }
 
--- a row of the table: the sheet, and what is said of it
+-- what is answered after reading, and then INSTANT and TWICE: a number and its place
+pub record Answer : Type 0 where
+  pub number : ℕ
+  pub place : ℕ
+
+abbrev answer : ℕ → ℕ → Answer
+answer x place = record { number = x; place = place }
+
+unfoldable pub faultOf : Found → Found → Answer
+faultOf (At n) g = answer (refusalNo Instant) (ofStmt n)
+faultOf Clear (At n) = answer (refusalNo Twice) (ofStmt n)
+faultOf Clear Clear = answer 0 0
+
+unfoldable pub answered : SheetOutcome → Answer
+unfolding faultOf instant twice
+answered (faulty f) = answer (refusalNo (f .refusal)) (f .place)
+answered (sheet w) = faultOf (instant (stmtNo 0) (w .root)) (twice (stmtNo 0) (w .root))
+
+-- An instant, sets and states as words: the event and the set E, whether E agrees with the rules, and what the reaction gives.
+pub record Moment : Type 0 where
+  pub event : ℕ
+  pub present : ℕ
+  pub agrees : Bool
+  pub emits : ℕ
+  pub next : ℕ
+
+-- "E agrees with the rules when it holds exactly tick, the event's inputs and the emissions.": asked of the signals below n
+unfoldable pub agreeing : ℕ → ℕ → ℕ → Outcome → Bool
+agreeing zero e j o = true
+agreeing (suc n) e j o =
+    Bool·beq (has e n) ((only tick (signalNo n) || has j n) || o .emits (signalNo n)) && agreeing n e j o
+
+-- the moments of t, which has n signals, from the state S on
+unfoldable pub moments : ℕ → Stmt → ℕ → List Moment → List Moment
+unfolding react wordOf agreeing
+moments n t S [] = []
+moments n t S (m ∷ ms) =
+    let o : Outcome = react (signalsIn (m .present)) (has S) t in
+    let next : ℕ = wordOf 64 (nextState o) in
+    record {
+      event = m .event;
+      present = m .present;
+      agrees = agreeing n (m .present) (m .event) o;
+      emits = wordOf n (λ k. o .emits (signalNo k));
+      next = next;
+    }
+    ∷ moments n t next ms
+
+-- a state as a word, and whether it fits
+pub record Judged : Type 0 where
+  pub state : ℕ
+  pub fitting : Bool
+
+-- A clock of the netlist, sets and states as words: the event and the values of the nets, net x at bit x, whether they solve the cells, and the outputs
+-- and the next state.
+pub record Clocked : Type 0 where
+  pub event : ℕ
+  pub values : ℕ
+  pub solves : Bool
+  pub outputs : ℕ
+  pub next : ℕ
+
+abbrev pub netsIn : ℕ → CellNo → Bool
+netsIn v x = has v (ofCell x)
+
+-- the first k cells have the values that they ask for
+unfoldable pub solving : ℕ → ℕ → ℕ → List Cell → ℕ → Bool
+unfolding registers
+solving zero j S cells v = true
+solving (suc k) j S cells v =
+    Bool·beq (has v k) (value (signalsIn j) (has S (before cells (cellNo k))) (netsIn v) (cellAt cells (cellNo k))) && solving k j S cells v
+
+-- the clocks of a netlist with I inputs and O outputs from the state S on
+unfoldable pub clocks : ℕ → ℕ → List Cell → ℕ → List Clocked → List Clocked
+unfolding solving operands wordOf
+clocks I O cells S [] = []
+clocks I O cells S (c ∷ cs) =
+    let v : ℕ = c .values in
+    let next : ℕ = wordOf 64 (nextOf (netsIn v) cells) in
+    record {
+      event = c .event;
+      values = v;
+      solves = solving (length cells) (c .event) S cells v;
+      outputs = wordOf 64 (λ s. outputsOf I O (netsIn v) (signalNo s));
+      next = next;
+    }
+    ∷ clocks I O cells next cs
+
+-- A row of the table: the sheet; what reading answers, and what the checks answer after it; moments from the fresh state on; states; the cells of the
+-- netlist, and its clocks from the fresh state on.
 pub record Case : Type 0 where
   pub bytes : List ℕ
   pub read : Reading
+  pub checked : Answer
+  pub runs : List Moment
+  pub states : List Judged
+  pub cells : List Cell
+  pub clocked : List Clocked
 
-abbrev accepted : List ℕ → ℕ → Case
-accepted s n = record { bytes = s; read = record { number = 0; place = 0; statements = n } }
+unfoldable pub runsOf : SheetOutcome → List Moment → List Moment
+unfolding moments localCount
+runsOf (faulty f) ms = []
+runsOf (sheet w) ms = moments (1 + w .inputs + w .outputs + localCount (w .root)) (w .root) 0 ms
+
+unfoldable pub statesOf : SheetOutcome → List Judged → List Judged
+unfolding fits
+statesOf (faulty f) js = []
+statesOf (sheet w) js = map (λ (j : Judged). record { state = j .state; fitting = fits (has (j .state)) (w .root) }) js
+
+-- the netlist of a sheet that was read
+unfoldable pub cellsOf : SheetOutcome → List Cell
+unfolding netlist
+cellsOf (faulty f) = []
+cellsOf (sheet w) = sheetNetlist w
+
+-- a column of cells that says nothing is not computed
+abbrev said : List Cell → List Cell → List Cell
+said [] cs = []
+said (c ∷ k) cs = cs
+
+unfoldable pub clocksOf : SheetOutcome → List Clocked → List Clocked
+unfolding cellsOf clocks
+clocksOf (faulty f) cs = []
+clocksOf (sheet w) cs = clocks (w .inputs) (w .outputs) (cellsOf (sheet w)) 0 cs
+
+-- the row that the definitions compute from a row's sheet, events, sets E, states and values of the nets
+unfoldable pub computed : Case → Case
+unfolding reading answered runsOf statesOf cellsOf clocksOf readSheet
+computed k =
+    let s : SheetOutcome = readSheet (k .bytes) in
+    record {
+      bytes = k .bytes;
+      read = reading s;
+      checked = answered s;
+      runs = runsOf s (k .runs);
+      states = statesOf s (k .states);
+      cells = said (k .cells) (cellsOf s);
+      clocked = clocksOf s (k .clocked);
+    }
+
+-- Columns of which nothing is said are empty.
+abbrev accepted : List ℕ → ℕ → List Moment → List Judged → Case
+accepted s n ms js =
+    record { bytes = s; read = record { number = 0; place = 0; statements = n }; checked = answer 0 0; runs = ms; states = js; cells = []; clocked = [] }
 
 abbrev refused : List ℕ → ℕ → ℕ → Case
-refused s x place = record { bytes = s; read = record { number = x; place = place; statements = 0 } }
+refused s x place =
+    record { bytes = s; read = record { number = x; place = place; statements = 0 }; checked = answer x place; runs = []; states = []; cells = []; clocked = [] }
+
+-- read, and refused by INSTANT or TWICE
+abbrev unchecked : List ℕ → ℕ → ℕ → ℕ → Case
+unchecked s n x place =
+    record { bytes = s; read = record { number = 0; place = 0; statements = n }; checked = answer x place; runs = []; states = []; cells = []; clocked = [] }
+
+-- with the event j, E agrees, and gives the emissions and the next state
+abbrev moment : ℕ → ℕ → ℕ → ℕ → Moment
+moment j e emits next = record { event = j; present = e; agrees = true; emits = emits; next = next }
+
+abbrev judged : ℕ → Bool → Judged
+judged S b = record { state = S; fitting = b }
+
+-- with the event j, the nets' values v solve the cells, and give the outputs and the next state
+abbrev clock : ℕ → ℕ → ℕ → ℕ → Clocked
+clock j v outputs next = record { event = j; values = v; solves = true; outputs = outputs; next = next }
+
+-- a row with what is said of its netlist
+abbrev built : List Cell → List Clocked → Case → Case
+built cs ts k =
+    record { bytes = k .bytes; read = k .read; checked = k .checked; runs = k .runs; states = k .states; cells = cs; clocked = ts }
+
+-- P1's cells, P5's, and those of the sheet of the trace
+abbrev p1Cells : List Cell
+p1Cells = Low ∷ (High ∷ (Register (cellNo 1) ∷ (Butnot (cellNo 1) (cellNo 2) ∷ [])))
+
+abbrev p5Cells : List Cell
+p5Cells =
+    Low ∷ (High ∷ (Or (cellNo 6) (cellNo 0) ∷ (Register (cellNo 1) ∷ (Butnot (cellNo 1) (cellNo 3)
+    ∷ (And (cellNo 4) (cellNo 2) ∷ (Butnot (cellNo 4) (cellNo 2) ∷ (Or (cellNo 5) (cellNo 6) ∷ [])))))))
+
+abbrev traceCells : List Cell
+traceCells =
+    Low ∷ (High ∷ (Input (signalNo 1) ∷ (Or (cellNo 12) (cellNo 0) ∷ (Register (cellNo 1) ∷ (Butnot (cellNo 1) (cellNo 4)
+    ∷ (Or (cellNo 5) (cellNo 12) ∷ (Butnot (cellNo 1) (cellNo 2) ∷ (Register (cellNo 10) ∷ (And (cellNo 7) (cellNo 8)
+    ∷ (Or (cellNo 6) (cellNo 9) ∷ (And (cellNo 1) (cellNo 8) ∷ (And (cellNo 11) (cellNo 2) ∷ []))))))))))))
+
+-- P5's sheet
+abbrev pub p5Sheet : List ℕ
+p5Sheet = 0 ∷ 0 ∷ 10 ∷ 5 ∷ 1 ∷ 0 ∷ 2 ∷ 1 ∷ []
 
 abbrev pub cases : List Case
 cases =
-    -- P1 and P2
-    accepted (0 ∷ 0 ∷ 0 ∷ []) 1
-    ∷ accepted (0 ∷ 0 ∷ 1 ∷ []) 1
+    -- P1: next state 1, also of the netlist
+    built p1Cells (clock 0 10 0 1 ∷ []) (accepted (0 ∷ 0 ∷ 0 ∷ []) 1 (moment 0 1 0 1 ∷ []) [])
+    -- P2: states 3, 3, also of the netlist
+    ∷ built [] (clock 0 74 0 3 ∷ clock 0 118 0 3 ∷ []) (accepted (0 ∷ 0 ∷ 1 ∷ []) 1 (moment 0 1 0 3 ∷ moment 0 1 0 3 ∷ []) [])
     -- P3: SHORT at 2
     ∷ refused (0 ∷ 0 ∷ []) 1 2
-    -- P4 and its second sheet, which read alike
-    ∷ accepted (0 ∷ 0 ∷ 4 ∷ 0 ∷ []) 2
-    ∷ accepted (0 ∷ 0 ∷ 4 ∷ 1 ∷ []) 2
-    -- P5
-    ∷ accepted (0 ∷ 0 ∷ 10 ∷ 5 ∷ 1 ∷ 0 ∷ 2 ∷ 1 ∷ []) 4
+    -- P4: INSTANT 0, and its second sheet, which reads alike and is accepted
+    ∷ unchecked (0 ∷ 0 ∷ 4 ∷ 0 ∷ []) 2 9 0
+    ∷ accepted (0 ∷ 0 ∷ 4 ∷ 1 ∷ []) 2 [] []
+    -- P5, whose CYCLE 2 stands beside the table
+    ∷ built p5Cells [] (accepted p5Sheet 4 [] [])
     -- P6: EXIT 3, and its second sheet
     ∷ refused (0 ∷ 0 ∷ 9 ∷ 2 ∷ []) 7 3
-    ∷ accepted (0 ∷ 0 ∷ 8 ∷ 9 ∷ 2 ∷ []) 2
+    ∷ accepted (0 ∷ 0 ∷ 8 ∷ 9 ∷ 2 ∷ []) 2 [] []
     -- P7: EMIT 3, and its second sheet: SCOPE 3
     ∷ refused (0 ∷ 0 ∷ 2 ∷ 0 ∷ []) 6 3
     ∷ refused (0 ∷ 0 ∷ 2 ∷ 1 ∷ []) 5 3
     -- P8: NUMBER 0
     ∷ refused (128 ∷ 0 ∷ []) 2 0
-    -- P9 and P10
-    ∷ accepted (2 ∷ 1 ∷ 4 ∷ 3 ∷ 7 ∷ 6 ∷ 1 ∷ 1 ∷ 6 ∷ 2 ∷ 1 ∷ 2 ∷ 3 ∷ []) 8
-    ∷ accepted (2 ∷ 1 ∷ 4 ∷ 3 ∷ 7 ∷ 6 ∷ 1 ∷ 1 ∷ 6 ∷ 2 ∷ 1 ∷ 3 ∷ 2 ∷ 3 ∷ 6 ∷ 0 ∷ 1 ∷ []) 11
-    -- P11 and P12
-    ∷ accepted (0 ∷ 1 ∷ 8 ∷ 3 ∷ 8 ∷ 7 ∷ 9 ∷ 3 ∷ 9 ∷ 2 ∷ 2 ∷ 1 ∷ []) 7
-    ∷ accepted (0 ∷ 0 ∷ 7 ∷ 1 ∷ 1 ∷ []) 3
+    -- P9: TWICE 2
+    ∷ unchecked (2 ∷ 1 ∷ 4 ∷ 3 ∷ 7 ∷ 6 ∷ 1 ∷ 1 ∷ 6 ∷ 2 ∷ 1 ∷ 2 ∷ 3 ∷ []) 8 10 2
+    -- P10: events 0, 6, 2, states 7, 9, 7, output (bit 3) at the second only; state 11 does not fit, and 5 does
+    ∷ built [] (clock 0 17198297794 0 7 ∷ clock 6 26959070270 8 9 ∷ clock 2 32499118246 0 7 ∷ [])
+    (accepted (2 ∷ 1 ∷ 4 ∷ 3 ∷ 7 ∷ 6 ∷ 1 ∷ 1 ∷ 6 ∷ 2 ∷ 1 ∷ 3 ∷ 2 ∷ 3 ∷ 6 ∷ 0 ∷ 1 ∷ []) 11
+    (moment 0 1 0 7 ∷ moment 6 15 8 9 ∷ moment 2 3 0 7 ∷ [])
+    (judged 11 false ∷ judged 5 true ∷ []))
+    -- P11: nothing emitted
+    ∷ accepted (0 ∷ 1 ∷ 8 ∷ 3 ∷ 8 ∷ 7 ∷ 9 ∷ 3 ∷ 9 ∷ 2 ∷ 2 ∷ 1 ∷ []) 7 (moment 0 1 0 1 ∷ []) []
+    -- P12: state 3 does not fit
+    ∷ accepted (0 ∷ 0 ∷ 7 ∷ 1 ∷ 1 ∷ []) 3 [] (judged 3 false ∷ [])
+    -- the trace's sheet: 13 cells
+    ∷ built traceCells [] (accepted (1 ∷ 1 ∷ 4 ∷ 3 ∷ 6 ∷ 1 ∷ 1 ∷ 2 ∷ 2 ∷ []) 5 [] [])
+    -- a watching without halts has no 0 in R, so it does not stand ended beside the halt
+    ∷ accepted (0 ∷ 0 ∷ 8 ∷ 7 ∷ 6 ∷ 0 ∷ 9 ∷ 2 ∷ 1 ∷ []) 5 [] (judged 3 false ∷ [])
     ∷ []

@@ -2,7 +2,7 @@
 use mathlib.Core.Path.{_≡_}
 use mathlib.Core.List.{List}
 use Prim.Native.Nat.{ℕ, _+_, _<_}
-use Rattle.bits.specs.Bits.{has}
+use Rattle.bits.specs.Bits.{signalsIn}
 use Rattle.number.specs.declared.StmtNo.{StmtNo}
 use Rattle.number.specs.declared.HaltNo.{HaltNo}
 use Rattle.number.specs.Counts.{ofSignal, haltNo, stmtNo, ofStmt}
@@ -23,7 +23,7 @@ use Rattle.sheet.specs.Rows.{lay, packed}
 
 -- what the code's record of the surroundings means
 abbrev pub around : Env → Around
-around e = record { inputs = e .inputs; traps = e .traps; scope = λ x. has (e .scope) (ofSignal x) }
+around e = record { inputs = e .inputs; traps = e .traps; scope = signalsIn (e .scope) }
 
 -- a signal statement declares a number that a word can hold
 abbrev pub LocalFits : Unary → Type 0

@@ -1,0 +1,11 @@
+pub mod Laws
+pub mod Few
+pub mod Parts
+pub mod Ends
+pub mod Codes
+pub mod Closed
+pub mod Registers
+pub mod Places
+pub mod Gates
+pub mod Format
+pub mod Samples

@@ -1,0 +1,6 @@
+pub mod Laws
+pub mod Operands
+pub mod Words
+pub mod OrRow
+pub mod ParallelRow
+pub mod LowAbove

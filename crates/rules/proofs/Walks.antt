@@ -1,0 +1,279 @@
+-- What the walks over the rows stand on: where a part stands, that its walk is shorter, and what a statement's run is by those of its parts.
+use mathlib.Core.Path.{_≡_, refl, sym, ap, _∙_, subst}
+use mathlib.Core.Bool.{Bool, true, false, not, _&&_, _||_}
+use mathlib.Core.List.{List}
+use Prim.Native.Nat.{ℕ, _+_, _-_, _<_, _≤_}
+use native.Mathlib.Omega.{arith}
+use native.Mathlib.Decide.{decLt}
+use lib.ListN.{length}
+use Rattle.bits.specs.Bits.{has, signalsIn}
+use Rattle.number.specs.declared.SignalNo.{SignalNo}
+use Rattle.number.specs.declared.HaltNo.{HaltNo}
+use Rattle.number.specs.declared.StmtNo.{StmtNo}
+use Rattle.number.specs.Counts.{ofSignal, haltNo, ofHalt, ofStmt}
+use Rattle.number.specs.Number.{pick}
+use Rattle.sheet.specs.declared.Leaf.{Leaf}
+use Rattle.sheet.specs.declared.Leaf.the-variants.{Nothing, Halt, Emit, Exit}
+use Rattle.sheet.specs.declared.Unary.{Unary}
+use Rattle.sheet.specs.declared.Unary.the-variants.{Loop, Watching, Trap, Signal}
+use Rattle.sheet.specs.declared.Binary.{Binary}
+use Rattle.sheet.specs.declared.Binary.the-variants.{Sequence, Present, Parallel}
+use Rattle.sheet.specs.declared.Head.the-variants.{Zero, One, Two}
+use Rattle.sheet.specs.Stmt.{Stmt, leaf, one, two, headOf, size, haltCount}
+use Rattle.sheet.specs.Read.{further}
+use Rattle.sheet.specs.Rows.{haltsOn, rowAt, lay, Holds, Tree}
+use Rattle.sheet.specs.Form.{Proper}
+use Rattle.sheet.proofs.Notions.{Numbered, Scoped, proper-numbered, proper-scoped}
+use Rattle.sheet.proofs.Walk.{size-pos, head-of, first-of, past-of, few-numbers, IsOne, IsTwo, is-leaf, is-one, is-two}
+use Rattle.sheet.proofs.Walk.{holds-second, tree-within, tree-end, tree-left, holds-proper}
+use Rattle.sets.proofs.Bools.{taut}
+use Rattle.rules.specs.declared.Reaction.{Reaction}
+use Rattle.rules.specs.Rules.{Signals, Outcome, followed, beside, start, active}
+use Rattle.rules.specs.States.{State, haltBit, haltsOf, noBits}
+use Rattle.rules.specs.Words.{haltsIn, Means, LeafInWord, InWords, Runnable, passed, Started, root, Inside}
+use Rattle.rules.proofs.NoBits.{no-bits-parts}
+use Rattle.rules.proofs.Meanings.{stopped-means}
+
+two-same : (x : Binary) (p p′ q q′ : Stmt) → p ≡ p′ → q ≡ q′ → two x p q ≡ two x p′ q′
+two-same x p p′ q q′ l r = rw (l, r)
+
+-- Rows hold one statement at most, with one first halt.
+pub holds-one : (rows : List ℕ) (n : StmtNo) (a b : HaltNo) (t u : Stmt) → Holds rows n a t → Holds rows n b u → t ≡ u
+unfolding Holds headOf
+holds-one rows n a b (leaf l) u h k = sym (is-leaf rows n b u k (head-of rows n a (leaf l) h))
+holds-one rows n a b (one x p) u h k =
+    let part : IsOne rows n b u x = is-one rows n b u k (head-of rows n a (one x p) h) in
+    ap (one x) (holds-one rows (further n 1) a b p (part .part) (h .2) (part .holds)) ∙ sym (part .is)
+holds-one rows n a b (two x p q) u h k =
+    let part : IsTwo rows n b u x = is-two rows n b u k (head-of rows n a (two x p q) h) in
+    let left : p ≡ part .left = holds-one rows (further n 1) a b p (part .left) (h .2) (part .holds-left) in
+    let after : Holds rows (further n (1 + size p)) (haltsOn b (haltCount p)) (part .right) =
+    subst (λ (x : Stmt). Holds rows (further n (1 + size x)) (haltsOn b (haltCount x)) (part .right)) (sym left) (part .holds-right) in
+    let right : q ≡ part .right =
+    holds-one rows (further n (1 + size p)) (haltsOn a (haltCount p)) (haltsOn b (haltCount p)) q (part .right) (h .3) after in
+    two-same x p (part .left) q (part .right) left right ∙ sym (part .is)
+
+-- so whatever the rows hold at n can be run, if something that can be run stands there
+pub words-of : {rows : List ℕ} {n : StmtNo} → Runnable rows n → (a : HaltNo) (t : Stmt) → Holds rows n a t → InWords a t
+words-of {rows} {n} run a t h =
+    let tree : run .stmt ≡ t = holds-one rows n (run .first) a (run .stmt) t (run .holds) h in
+    let first : run .first ≡ a = sym (first-of rows n (run .first) (run .stmt) (run .holds)) ∙ first-of rows n a t h in
+    subst (λ (x : HaltNo). InWords x t) first (subst (λ (x : Stmt). InWords (run .first) x) tree (run .words))
+
+module _ {rows : List ℕ} {n : StmtNo} (run : Runnable rows n) where
+  pub tree-of : Tree rows n
+  tree-of = record { first = run .first; stmt = run .stmt; holds = run .holds }
+
+  pub run-within : ofStmt n < length rows
+  run-within = tree-within tree-of
+
+  pub run-number : ofStmt n < 4096
+  run-number = omega (arith, few-numbers rows n (run .first) (run .stmt) (run .holds), size-pos (run .stmt))
+
+  pub run-leaf : {l : Leaf} → rowAt rows n .head ≡ Zero l → LeafInWord l
+  unfolding InWords
+  run-leaf {l} e =
+      let words : InWords (run .first) (leaf l) =
+      subst (λ (x : Stmt). InWords (run .first) x) (is-leaf rows n (run .first) (run .stmt) (run .holds) e) (run .words) in
+      words .0
+
+  pub run-one : {u : Unary} → rowAt rows n .head ≡ One u → Runnable rows (further n 1)
+  unfolding InWords
+  run-one {u} e =
+      let k = is-one rows n (run .first) (run .stmt) (run .holds) e in
+      let words : InWords (run .first) (one u (k .part)) = subst (λ (x : Stmt). InWords (run .first) x) (k .is) (run .words) in
+      record { first = run .first; stmt = k .part; holds = k .holds; words = words }
+
+  module _ {b : Binary} (e : rowAt rows n .head ≡ Two b) where
+    sides : IsTwo rows n (run .first) (run .stmt) b
+    sides = is-two rows n (run .first) (run .stmt) (run .holds) e
+
+    side-words : InWords (run .first) (sides .left) × InWords (haltsOn (run .first) (haltCount (sides .left))) (sides .right)
+    unfolding InWords
+    side-words = subst (λ (x : Stmt). InWords (run .first) x) (sides .is) (run .words)
+
+    pub run-left : Runnable rows (further n 1)
+    run-left = record { first = run .first; stmt = sides .left; holds = sides .holds-left; words = side-words .0 }
+
+    pub run-right : Runnable rows (rowAt rows (further n 1) .end)
+    run-right =
+        record {
+          first = haltsOn (run .first) (haltCount (sides .left));
+          stmt = sides .right;
+          holds = holds-second rows n (run .first) sides;
+          words = side-words .1;
+        }
+
+    -- the second part lies further on
+    pub right-further : ofStmt n < ofStmt (rowAt rows (further n 1) .end)
+    right-further = omega (arith, tree-end (tree-left tree-of e) .0)
+
+    pub right-within : ofStmt (rowAt rows (further n 1) .end) < length rows
+    right-within = tree-within (record { first = run-right .first; stmt = run-right .stmt; holds = run-right .holds })
+
+start-passed : (E : Signals) (u : Unary) (p : Stmt) → start E (one u p) ≡ passed u (start E p)
+unfolding start
+start-passed E Loop p = refl
+start-passed E (Watching s) p = refl
+start-passed E Trap p = refl
+start-passed E (Signal s) p = refl
+
+-- A statement started, by its parts.
+module _ (rows : List ℕ) (n : StmtNo) (e : ℕ) where
+  abbrev E : Signals
+  E = signalsIn e
+
+  pub start-leaf : {l : Leaf} {r : Reaction} → rowAt rows n .head ≡ Zero l → ((X : Signals) → Means r (start X (leaf l))) → Started rows n e r
+  start-leaf head f = record { means = λ a t h. rw (is-leaf rows n a t h head) (f E) }
+
+  pub start-one : {u : Unary} {p r : Reaction} → rowAt rows n .head ≡ One u → Started rows (further n 1) e p
+      → ((o : Outcome) → Means p o → Means r (passed u o)) → Started rows n e r
+  start-one {u} {r = r} head part f = record { means = means }
+    where
+      means : (a : HaltNo) (t : Stmt) → Holds rows n a t → Means r (start E t)
+      means a t h =
+          let k = is-one rows n a t h head in
+          rw (k .is, start-passed E u (k .part)) (f (start E (k .part)) (part .means a (k .part) (k .holds)))
+
+  module _ {b : Binary} {p q r : Reaction} (head : rowAt rows n .head ≡ Two b)
+      (of : (x y : Stmt) → Means p (start E x) → Means q (start E y) → Means r (start E (two b x y))) where
+    -- both parts have run
+    start-two : Started rows (further n 1) e p → Started rows (rowAt rows (further n 1) .end) e q → Started rows n e r
+    start-two left right = record { means = means }
+      where
+        means : (a : HaltNo) (t : Stmt) → Holds rows n a t → Means r (start E t)
+        means a t h =
+            let k = is-two rows n a t h head in
+            rw (k .is)
+            (of (k .left) (k .right) (left .means a (k .left) (k .holds-left))
+            (right .means (haltsOn a (haltCount (k .left))) (k .right) (holds-second rows n a k)))
+
+  module _ {b : Binary} {p : Reaction} (head : rowAt rows n .head ≡ Two b) where
+    -- only the first, or only the second, has
+    start-first : ((x y : Stmt) → Means p (start E x) → Means p (start E (two b x y))) → Started rows (further n 1) e p → Started rows n e p
+    start-first of left = record { means = means }
+      where
+        means : (a : HaltNo) (t : Stmt) → Holds rows n a t → Means p (start E t)
+        means a t h = let k = is-two rows n a t h head in rw (k .is) (of (k .left) (k .right) (left .means a (k .left) (k .holds-left)))
+
+    start-second : ((x y : Stmt) → Means p (start E y) → Means p (start E (two b x y))) → Started rows (rowAt rows (further n 1) .end) e p
+        → Started rows n e p
+    start-second of right = record { means = means }
+      where
+        means : (a : HaltNo) (t : Stmt) → Holds rows n a t → Means p (start E t)
+        means a t h =
+            let k = is-two rows n a t h head in
+            rw (k .is)
+            (of (k .left) (k .right) (right .means (haltsOn a (haltCount (k .left))) (k .right) (holds-second rows n a k)))
+
+  module _ {p q r : Reaction} where
+    pub start-sequence : rowAt rows n .head ≡ Two Sequence → Started rows (further n 1) e p → Started rows (rowAt rows (further n 1) .end) e q
+        → ((x y : Outcome) → Means p x → Means q y → Means r (followed x y)) → Started rows n e r
+    unfolding start
+    start-sequence head left right f = start-two head (λ x y mp mq. f (start E x) (start E y) mp mq) left right
+
+    pub start-parallel : rowAt rows n .head ≡ Two Parallel → Started rows (further n 1) e p → Started rows (rowAt rows (further n 1) .end) e q
+        → ((x y : Outcome) → Means p x → Means q y → Means r (beside x y)) → Started rows n e r
+    unfolding start
+    start-parallel head left right f = start-two head (λ x y mp mq. f (start E x) (start E y) mp mq) left right
+
+  module _ {p : Reaction} where
+    pub start-stopped : rowAt rows n .head ≡ Two Sequence → Started rows (further n 1) e p → (p .code ≡ 0 → ⊥) → Started rows n e p
+    unfolding start
+    start-stopped head left on = start-first head (λ x y m. stopped-means p (start E x) (start E y) m on) left
+
+    pub start-then : {s : SignalNo} → rowAt rows n .head ≡ Two (Present s) → has e (ofSignal s) ≡ true → Started rows (further n 1) e p
+        → Started rows n e p
+    unfolding start pick
+    start-then head present left = start-first head (λ x y m. rw present m) left
+
+    pub start-else : {s : SignalNo} → rowAt rows n .head ≡ Two (Present s) → has e (ofSignal s) ≡ false
+        → Started rows (rowAt rows (further n 1) .end) e p → Started rows n e p
+    unfolding start pick
+    start-else head absent right = start-second head (λ x y m. rw absent m) right
+
+-- Which halts lie inside: the state's bits from the first halt's on, as many as there are halts.
+active-here : (x : Bool) → x ≡ not (not x && true)
+active-here = taut 1 0 _ _ _ tt
+
+active-either : (x y : Bool) → (not x || not y) ≡ not (x && y)
+active-either = taut 2 0 _ _ _ tt
+
+active-bits : (S : State) (a : HaltNo) (t : Stmt) → InWords a t → active (haltsOf S) t ≡ not (noBits (haltCount t) (1 + ofHalt a) S)
+unfolding active noBits haltCount InWords
+active-bits S a (leaf Nothing) w = refl
+active-bits S a (leaf (Halt h)) w = rw (w .1) (active-here (S (1 + ofHalt a)))
+active-bits S a (leaf (Emit s)) w = refl
+active-bits S a (leaf (Exit k)) w = refl
+active-bits S a (one u p) w = active-bits S a p w
+active-bits S a (two b p q) w =
+    let a₂ : HaltNo = haltsOn a (haltCount p) in
+    let here : 1 + ofHalt a + haltCount p ≡ 1 + ofHalt a₂ = omega arith in
+    rw (active-bits S a p (w .0), active-bits S a₂ q (w .1), no-bits-parts (haltCount p) (haltCount q) (1 + ofHalt a) S, here)
+    (active-either (noBits (haltCount p) (1 + ofHalt a) S) (noBits (haltCount q) (1 + ofHalt a₂) S))
+
+-- the last halt's bit is one of a word's
+few-halts : (a : HaltNo) (t : Stmt) → InWords a t → 0 < haltCount t → ofHalt a + haltCount t < 64
+unfolding haltCount InWords
+few-halts a (leaf Nothing) w some = absurd (omega arith)
+few-halts a (leaf (Halt h)) w some = let first : ofHalt h ≡ ofHalt a = ap (λ (x : HaltNo). ofHalt x) (w .1) in omega (arith, w .0)
+few-halts a (leaf (Emit s)) w some = absurd (omega arith)
+few-halts a (leaf (Exit k)) w some = absurd (omega arith)
+few-halts a (one u p) w some = few-halts a p w some
+few-halts a (two b p q) w some =
+    go (decLt 0 (haltCount q)) (few-halts a p (w .0)) (few-halts (haltsOn a (haltCount p)) q (w .1))
+  where
+    go : Dec (0 < haltCount q) → (0 < haltCount p → ofHalt a + haltCount p < 64) → (0 < haltCount q → ofHalt a + haltCount p + haltCount q < 64)
+        → ofHalt a + (haltCount p + haltCount q) < 64
+    go (yes k) left right = omega (arith, right k)
+    go (no k) left right = let here = left (omega arith) in omega arith
+
+module _ {rows : List ℕ} {n : StmtNo} (run : Runnable rows n) where
+  -- the row's two numbers
+  row-halts : (a : HaltNo) (t : Stmt) → Holds rows n a t
+      → (ofHalt (rowAt rows n .first) ≡ ofHalt a) × (ofHalt (rowAt rows n .past) ≡ ofHalt a + haltCount t)
+  row-halts a t h = (ap (λ (x : HaltNo). ofHalt x) (first-of rows n a t h), ap (λ (x : HaltNo). ofHalt x) (past-of rows n a t h))
+
+  pub inside-few : ofHalt (rowAt rows n .first) < ofHalt (rowAt rows n .past) → ofHalt (rowAt rows n .past) < 64
+  inside-few l =
+      let row = row-halts (run .first) (run .stmt) (run .holds) in
+      omega (arith, row .0, row .1, few-halts (run .first) (run .stmt) (run .words) (omega (arith, row .0, row .1)))
+
+  -- a statement without halts
+  pub inside-none : (w : ℕ) → ofHalt (rowAt rows n .past) ≤ ofHalt (rowAt rows n .first) → Inside rows n w false
+  unfolding noBits
+  inside-none w l = record { answer = answer }
+    where
+      answer : (a : HaltNo) (t : Stmt) → Holds rows n a t → false ≡ active (haltsIn w) t
+      answer a t h =
+          let row = row-halts a t h in
+          let none : haltCount t ≡ 0 = omega (arith, row .0, row .1) in
+          sym (rw none at (active-bits (has w) a t (words-of run a t h)))
+
+  pub inside-some : (w : ℕ) (off : Bool)
+      → off ≡ noBits (ofHalt (rowAt rows n .past) - ofHalt (rowAt rows n .first)) (haltBit (rowAt rows n .first)) (has w) → Inside rows n w (not off)
+  inside-some w off e = record { answer = answer }
+    where
+      answer : (a : HaltNo) (t : Stmt) → Holds rows n a t → not off ≡ active (haltsIn w) t
+      answer a t h =
+          let row = row-halts a t h in
+          let count : ofHalt (rowAt rows n .past) - ofHalt (rowAt rows n .first) ≡ haltCount t = omega (arith, row .0, row .1) in
+          ap not (rw (count, row .0) at e) ∙ sym (active-bits (has w) a t (words-of run a t h))
+
+-- The tree of a sheet that was read can be run in words.
+pub placed-words : (i n : ℕ) (a : HaltNo) (t : Stmt) → n ≤ 64 → Scoped i n t → Numbered a t → ofHalt a + haltCount t ≤ 63 → InWords a t
+unfolding Scoped Numbered haltCount InWords
+placed-words i n a (leaf Nothing) few s k room = (tt, tt)
+placed-words i n a (leaf (Halt h)) few s k room = let own : ofHalt h ≡ ofHalt a = ap (λ (x : HaltNo). ofHalt x) k in (omega arith, k)
+placed-words i n a (leaf (Emit x)) few s k room = (omega (arith, s .1), tt)
+placed-words i n a (leaf (Exit l)) few s k room = (tt, tt)
+placed-words i n a (one u p) few s k room = placed-words i n a p few (s .1) k room
+placed-words i n a (two b p q) few s k room =
+    (placed-words i n a p few (s .1) (k .0) (omega arith), placed-words i n (haltsOn a (haltCount p)) q few (s .2) (k .1) (omega arith))
+
+pub proper-words : {i o : ℕ} {t : Stmt} → Proper i o t → InWords (haltNo 0) t
+proper-words {t = t} h = placed-words _ _ (haltNo 0) t (h .signals) (proper-scoped h) (proper-numbered h) (omega (arith, h .halts))
+
+-- so its rows can be run
+pub run-proper : {i o : ℕ} {t : Stmt} (rows : List ℕ) → Proper i o t → 256 ≤ length rows → Runnable (lay rows root (haltNo 0) t) root
+run-proper {i} {o} {t} rows h room = record { first = haltNo 0; stmt = t; holds = holds-proper i o rows t h room; words = proper-words h }

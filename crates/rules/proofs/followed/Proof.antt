@@ -1,0 +1,16 @@
+-- The joined word holds both runs' emissions.
+use Rattle.rules.proofs.Meanings.{followed-means}
+use borrow.Author.Needs.{needs}
+use Rattle.rules.proofs.followed.Statement.{statement}
+use Rattle.rules.proofs.followed.Tie as tie
+
+join-requires : tie.Need-join-requires
+join-requires c κs = search needs
+
+returns : tie.Need-returns
+returns c =
+    let entry = c .before in
+    λ p q ma mb. followed-means (entry .args .a) (entry .args .b) p q ma mb (c .join .result) (c .join .ensures) (entry .pre)
+
+pub followed-spec : {M : Type 1} → statement M
+followed-spec = tie.close (tie.spec join-requires returns)

@@ -1,0 +1,60 @@
+-- Case by case as `sidesFit` has them.
+use mathlib.Core.Path.{sym, _∙_}
+use Rattle.rules.proofs.Fitting.{parallel-sides, other-sides, left-alone}
+use borrow.Author.Needs.{needs}
+use Rattle.rules.proofs.sides_fit.Statement.{statement}
+use Rattle.rules.proofs.sides_fit.Tie as tie
+
+is-parallel-requires : tie.Need-is-parallel-requires
+is-parallel-requires c κs = search needs
+
+returns : tie.Need-returns
+returns c =
+    let is-parallel-ensures = c .before .before .before .is-parallel .ensures in
+    let if1-taken = c .before .before .if1 .taken in
+    let if2-taken = c .before .if2 .taken in
+    let a = c .before .before .before .before .args in
+    rw (parallel-sides (a .b) (a .p) (a .q) (a .ends-p) (a .ends-q) (sym is-parallel-ensures ∙ if1-taken), if2-taken, c .if3 .taken)
+
+returns-2 : tie.Need-returns-2
+returns-2 c =
+    let is-parallel-ensures = c .before .before .before .is-parallel .ensures in
+    let if1-taken = c .before .before .if1 .taken in
+    let if2-taken = c .before .if2 .taken in
+    let a = c .before .before .before .before .args in
+    rw (parallel-sides (a .b) (a .p) (a .q) (a .ends-p) (a .ends-q) (sym is-parallel-ensures ∙ if1-taken), if2-taken, c .if3 .left) (left-alone (a .ends-q))
+
+returns-3 : tie.Need-returns-3
+returns-3 c =
+    let is-parallel-ensures = c .before .before .before .is-parallel .ensures in
+    let if1-taken = c .before .before .if1 .taken in
+    let if2-left = c .before .if2 .left in
+    let a = c .before .before .before .before .args in
+    rw (parallel-sides (a .b) (a .p) (a .q) (a .ends-p) (a .ends-q) (sym is-parallel-ensures ∙ if1-taken), if2-left, c .if4 .taken)
+
+returns-4 : tie.Need-returns-4
+returns-4 c =
+    let is-parallel-ensures = c .before .before .before .is-parallel .ensures in
+    let if1-taken = c .before .before .if1 .taken in
+    let if2-left = c .before .if2 .left in
+    let a = c .before .before .before .before .args in
+    rw (parallel-sides (a .b) (a .p) (a .q) (a .ends-p) (a .ends-q) (sym is-parallel-ensures ∙ if1-taken), if2-left, c .if4 .left)
+
+returns-5 : tie.Need-returns-5
+returns-5 c =
+    let is-parallel-ensures = c .before .before .is-parallel .ensures in
+    let if1-left = c .before .if1 .left in
+    let a = c .before .before .before .args in
+    rw (other-sides (a .b) (a .p) (a .q) (a .ends-p) (a .ends-q) (sym is-parallel-ensures ∙ if1-left), c .if5 .taken)
+
+returns-6 : tie.Need-returns-6
+returns-6 c =
+    let is-parallel-ensures = c .before .before .is-parallel .ensures in
+    let if1-left = c .before .if1 .left in
+    let a = c .before .before .before .args in
+    rw (other-sides (a .b) (a .p) (a .q) (a .ends-p) (a .ends-q) (sym is-parallel-ensures ∙ if1-left), c .if5 .left)
+
+pub sides-fit-spec : {M : Type 1} → statement M
+sides-fit-spec =
+    tie.close
+    (tie.spec is-parallel-requires returns returns-2 returns-3 returns-4 returns-5 returns-6)

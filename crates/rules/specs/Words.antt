@@ -1,0 +1,141 @@
+-- How the code keeps signals, halts and states: in words. "signal s at bit s"; "A state is 64 bits: bit 0 boot, bit 1+h halt h.".
+use mathlib.Core.Path.{_≡_}
+use mathlib.Core.Bool.{Bool, true, false, not, _&&_, _||_}
+use mathlib.Core.List.{List}
+use Prim.Native.Nat.{ℕ, _<_}
+use lib.Dec.{eqb}
+use Rattle.bits.specs.Bits.{has, signalsIn}
+use Rattle.number.specs.declared.SignalNo.{SignalNo}
+use Rattle.number.specs.declared.HaltNo.{HaltNo}
+use Rattle.number.specs.declared.StmtNo.{StmtNo}
+use Rattle.number.specs.Counts.{ofSignal, haltNo, stmtNo}
+use Rattle.number.specs.Number.{pick}
+use Rattle.sheet.specs.declared.Leaf.{Leaf}
+use Rattle.sheet.specs.declared.Leaf.the-variants.{Nothing, Halt, Emit, Exit}
+use Rattle.sheet.specs.declared.Unary.{Unary}
+use Rattle.sheet.specs.declared.Unary.the-variants.{Loop, Watching, Trap, Signal}
+use Rattle.sheet.specs.declared.Binary.{Binary}
+use Rattle.sheet.specs.declared.Binary.the-variants.{Sequence, Present, Parallel}
+use Rattle.sheet.specs.Stmt.{Stmt, leaf, one, two, haltCount}
+use Rattle.sheet.specs.Rows.{Holds, haltsOn}
+use Rattle.sets.specs.Words.{Low, Kept}
+use Rattle.rules.specs.declared.Reaction.{Reaction}
+use Rattle.rules.specs.Rules.{Signals, Halts, Outcome, idle, trapped, start, active, resume}
+use Rattle.rules.specs.States.{boot, haltBit, haltsOf, react, nextState, apart, fits}
+
+-- the halts in a state's word
+abbrev pub haltsIn : ℕ → Halts
+haltsIn w = haltsOf (has w)
+
+-- The words of a reaction mean the outcome o. Its halts stand at the bits that a state has for them, with boot off.
+pub record Means (r : Reaction) (o : Outcome) : Type 0 where
+  pub emits : (s : SignalNo) → has (r .emits) (ofSignal s) ≡ o .emits s
+  pub code : r .code ≡ o .code
+  pub halts : (h : HaltNo) → has (r .halts) (haltBit h) ≡ o .halts h
+  pub unbooted : has (r .halts) boot ≡ false
+
+-- A statement that can be run in words: what it emits and where it halts has a bit in a word, and its halts are numbered from a on.
+abbrev pub LeafInWord : Leaf → Type 0
+LeafInWord Nothing = Unit
+LeafInWord (Halt h) = haltBit h < 64
+LeafInWord (Emit s) = ofSignal s < 64
+LeafInWord (Exit k) = Unit
+
+abbrev pub LeafFrom : HaltNo → Leaf → Type 0
+LeafFrom a Nothing = Unit
+LeafFrom a (Halt h) = h ≡ a
+LeafFrom a (Emit s) = Unit
+LeafFrom a (Exit k) = Unit
+
+unfoldable pub InWords : HaltNo → Stmt → Type 0
+InWords a (leaf l) = LeafInWord l × LeafFrom a l
+InWords a (one u p) = InWords a p
+InWords a (two b p q) = InWords a p × InWords (haltsOn a (haltCount p)) q
+
+-- such a statement stands at row n
+pub record Runnable (rows : List ℕ) (n : StmtNo) : Type 0 where
+  pub first : HaltNo
+  pub stmt : Stmt
+  pub holds : Holds rows n first stmt
+  pub words : InWords first stmt
+
+-- "Resumed (only where one of the state's halts lies inside).": elsewhere nothing is done
+abbrev pub resumed : Signals → Halts → Stmt → Outcome
+resumed E H t = pick (active H t) (resume E H t) idle
+
+-- What a run of the statement at row n answers, for the E of the word e and the state of the word w.
+pub record Started (rows : List ℕ) (n : StmtNo) (e : ℕ) (r : Reaction) : Type 0 where
+  pub means : (a : HaltNo) (t : Stmt) → Holds rows n a t → Means r (start (signalsIn e) t)
+
+pub record Resumed (rows : List ℕ) (n : StmtNo) (e w : ℕ) (r : Reaction) : Type 0 where
+  pub means : (a : HaltNo) (t : Stmt) → Holds rows n a t → Means r (resumed (signalsIn e) (haltsIn w) t)
+
+-- What a statement with one part makes of the part's outcome. "Loop, signal, watching: as p. .. Trap: .."
+abbrev pub passed : Unary → Outcome → Outcome
+passed Loop o = o
+passed (Watching s) o = o
+passed Trap o = trapped o
+passed (Signal s) o = o
+
+-- "Watching: s in E gives 0 and nothing more"
+abbrev pub cutOff : Signals → Unary → Bool
+cutOff E Loop = false
+cutOff E (Watching s) = E s
+cutOff E Trap = false
+cutOff E (Signal s) = false
+
+-- "Loop: p; on 0, p is started", "a sequence whose left gives 0 starts its right"
+abbrev pub restarts : Unary → ℕ → Bool
+restarts Loop c = eqb c 0
+restarts (Watching s) c = false
+restarts Trap c = false
+restarts (Signal s) c = false
+
+abbrev pub goesOn : Binary → ℕ → Bool
+goesOn Sequence c = eqb c 0
+goesOn (Present s) c = false
+goesOn Parallel c = false
+
+abbrev pub isParallel : Binary → Bool
+isParallel Sequence = false
+isParallel (Present s) = false
+isParallel Parallel = true
+
+-- "no sequence or present has halts on both sides; where one side alone of a parallel has halts, the other has 0 in K or R": whether p and q have
+-- halts, and whether each may end
+abbrev pub sidesFit : Binary → Bool → Bool → Bool → Bool → Bool
+sidesFit Sequence p q endsP endsQ = not (p && q)
+sidesFit (Present s) p q endsP endsQ = not (p && q)
+sidesFit Parallel p q endsP endsQ = (not p || (q || endsQ)) && (not q || (p || endsP))
+
+-- the root's number
+abbrev pub root : StmtNo
+root = stmtNo 0
+
+pub record Reacted (rows : List ℕ) (e w : ℕ) (r : Reaction) : Type 0 where
+  pub means : (a : HaltNo) (t : Stmt) → Holds rows root a t → Means r (react (signalsIn e) (has w) t)
+
+-- the word w is the next state
+pub record Next (r : Reaction) (w : ℕ) : Type 0 where
+  pub state : (o : Outcome) → Means r o → (k : ℕ) → has w k ≡ nextState o k
+
+-- whether one of the state's halts lies inside the statement at row n
+pub record Inside (rows : List ℕ) (n : StmtNo) (w : ℕ) (r : Bool) : Type 0 where
+  pub answer : (a : HaltNo) (t : Stmt) → Holds rows n a t → r ≡ active (haltsIn w) t
+
+-- the column has K and R of the statement at row n and of its parts
+pub record Known (rows sets : List ℕ) (n : StmtNo) : Type 0 where
+  pub run : Runnable rows n
+  pub low : Low (run .stmt)
+  pub kept : Kept sets n (run .stmt)
+
+pub record ToldApart (rows : List ℕ) (n : StmtNo) (w : ℕ) (r : Bool) : Type 0 where
+  pub answer : (a : HaltNo) (t : Stmt) → Holds rows n a t → r ≡ apart (haltsIn w) t
+
+-- the whole sheet, whose halts are numbered from 0 on
+pub record Whole (rows sets : List ℕ) : Type 0 where
+  pub known : Known rows sets root
+  pub from-zero : known .run .first ≡ haltNo 0
+
+pub record Fitted (rows : List ℕ) (w : ℕ) (r : Bool) : Type 0 where
+  pub answer : (t : Stmt) → Holds rows root (haltNo 0) t → r ≡ fits (has w) t

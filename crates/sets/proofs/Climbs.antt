@@ -1,0 +1,289 @@
+-- TWICE from the root down finds what the climbs find: at each statement, a climb that passes it meets F where the codes that it comes with meet
+-- those that lead to F.
+use mathlib.Core.Path.{_≡_, refl, sym, _∙_}
+use mathlib.Core.Bool.{Bool, true, false, _&&_, _||_, and-false, or-false}
+use mathlib.Core.List.{List, [], _∷_, _++_, map}
+use Prim.Native.Nat.{ℕ, zero, suc, _+_, _<_}
+use native.Mathlib.Omega.{arith}
+use lib.Dec.{ltb}
+use borrow.Author.Tests.{lt-ltb}
+use Rattle.number.specs.declared.StmtNo.{StmtNo}
+use Rattle.number.specs.Number.{pick}
+use Rattle.sheet.specs.declared.Unary.the-variants.{Loop, Watching, Trap, Signal}
+use Rattle.sheet.specs.declared.Binary.the-variants.{Sequence, Present, Parallel}
+use Rattle.sheet.specs.Stmt.{Stmt, leaf, one, two, size}
+use Rattle.sheet.specs.Read.{further}
+use Rattle.sets.specs.declared.Found.{Found}
+use Rattle.sets.specs.declared.Found.the-variants.{At, Clear}
+use Rattle.sets.specs.Codes.{Codes, empty, join, when, upto, maxima, replaced, with0, caughtCodes}
+use Rattle.sets.specs.Static.{K, R}
+use Rattle.sets.specs.Faults.{orElse, Climb, through, looped, besides, climbs, firstFault, twice}
+use Rattle.sets.specs.Words.{codeCount, Low}
+use Rattle.sets.specs.Leads.{some, both, meet, downto, atLeast, leadsSequence, leadsTrap, leadsParallel, leadsOne, leadsLeft, leadsRight, firstLed}
+use Rattle.sets.proofs.Bools.{taut}
+use Rattle.sets.proofs.Bounds.{Bounded, bounded-join, bounded-when, bounded-maxima, bounded-replaced, bounded-more, bounded-caught, K-low, R-low}
+
+-- Some code below n: of sets that agree there, of a join, of a set that is there only where b holds, of one without the code n.
+some-alike : (n : ℕ) (A B : Codes) → ((j : ℕ) → j < n → A j ≡ B j) → some n A ≡ some n B
+unfolding some
+some-alike zero A B same = refl
+some-alike (suc n) A B same =
+    rw (same 0 (omega arith), some-alike n (λ j. A (suc j)) (λ j. B (suc j)) (λ j h. same (suc j) (omega arith)))
+
+some-or : (n : ℕ) (A B : Codes) → some n (λ j. A j || B j) ≡ (some n A || some n B)
+unfolding some
+some-or zero A B = refl
+some-or (suc n) A B = rw (some-or n (λ j. A (suc j)) (λ j. B (suc j))) (regroup (A 0) (B 0) (some n (λ j. A (suc j))) (some n (λ j. B (suc j))))
+  where
+    regroup : (a b x y : Bool) → ((a || b) || (x || y)) ≡ ((a || x) || (b || y))
+    regroup = taut 4 0 _ _ _ tt
+
+some-when : (n : ℕ) (b : Bool) (A : Codes) → some n (λ j. b && A j) ≡ (b && some n A)
+unfolding some
+some-when n true A = refl
+some-when zero false A = refl
+some-when (suc n) false A = some-when n false (λ j. A (suc j))
+
+some-last : (n : ℕ) (A : Codes) → A n ≡ false → some (suc n) A ≡ some n A
+unfolding some
+some-last zero A e = rw e
+some-last (suc n) A e = rw (some-last n (λ j. A (suc j)) e)
+
+-- some code of C is at most one of X just where some code of X is at least one of C
+downto-some : (n : ℕ) (A : Codes) → downto n A 0 ≡ some n A
+unfolding some
+downto-some zero A = refl
+downto-some (suc n) A = rw (downto-some n (λ j. A (suc j)))
+
+exchange : (n : ℕ) (C X : Codes) → some n (λ j. X j && upto C j) ≡ some n (λ j. C j && downto n X j)
+unfolding some
+exchange zero C X = refl
+exchange (suc n) C X =
+    let C′ : Codes = λ j. C (suc j) in
+    let X′ : Codes = λ j. X (suc j) in
+    let apart : some n (λ j. X′ j && (C 0 || upto C′ j)) ≡ ((C 0 && some n X′) || some n (λ j. C′ j && downto n X′ j)) =
+    some-alike n (λ j. X′ j && (C 0 || upto C′ j)) (λ j. (C 0 && X′ j) || (X′ j && upto C′ j)) (λ j h. share (X′ j) (C 0) (upto C′ j))
+    ∙ some-or n (λ j. C 0 && X′ j) (λ j. X′ j && upto C′ j)
+    ∙ rw (some-when n (C 0) X′, exchange n C′ X′) in
+    rw (apart, downto-some n X′) (regroup (X 0) (C 0) (some n X′) (some n (λ j. C′ j && downto n X′ j)))
+  where
+    share : (x c u : Bool) → (x && (c || u)) ≡ ((c && x) || (x && u))
+    share = taut 3 0 _ _ _ tt
+
+    regroup : (x c y z : Bool) → ((x && c) || ((c && y) || z)) ≡ ((c && (x || y)) || z)
+    regroup = taut 4 0 _ _ _ tt
+
+-- what meets F, for joined codes
+meet-join : (n : ℕ) (A B F : Codes) → meet n (join A B) F ≡ (meet n A F || meet n B F)
+unfolding meet
+meet-join n A B F =
+    some-alike n (both (join A B) F) (λ j. both A F j || both B F j) (λ j h. share (A j) (B j) (F j)) ∙ some-or n (both A F) (both B F)
+  where
+    share : (a b f : Bool) → ((a || b) && f) ≡ ((a && f) || (b && f))
+    share = taut 3 0 _ _ _ tt
+
+meet-when : (n : ℕ) (b : Bool) (A F : Codes) → meet n (when b A) F ≡ (b && meet n A F)
+unfolding meet
+meet-when n b A F = some-alike n (both (when b A) F) (λ j. b && both A F j) (λ j h. share b (A j) (F j)) ∙ some-when n b (both A F)
+  where
+    share : (b a f : Bool) → ((b && a) && f) ≡ (b && (a && f))
+    share = taut 3 0 _ _ _ tt
+
+meet-flip : (n : ℕ) (A F : Codes) → meet n A F ≡ meet n F A
+unfolding meet
+meet-flip n A F = some-alike n (both A F) (both F A) (λ j h. swap (A j) (F j))
+  where
+    swap : (a f : Bool) → (a && f) ≡ (f && a)
+    swap = taut 2 0 _ _ _ tt
+
+-- "As left of a sequence, 0 in C is replaced by K(right)."
+sequence-climb : (C K F : Codes) → meet codeCount (replaced C K) F ≡ meet codeCount C (leadsSequence K F)
+unfolding meet some leadsSequence
+sequence-climb C K F =
+    let C′ : Codes = λ j. C (suc j) in
+    let K′ : Codes = λ j. K (suc j) in
+    let F′ : Codes = λ j. F (suc j) in
+    let rest : some 9 (λ j. (C′ j || (C 0 && K′ j)) && F′ j) ≡ (some 9 (both C′ F′) || (C 0 && some 9 (both K′ F′))) =
+    meet-join 9 C′ (when (C 0) K′) F′ ∙ rw (meet-when 9 (C 0) K′ F′) in
+    rw rest (regroup (C 0) (K 0) (F 0) (some 9 (both C′ F′)) (some 9 (both K′ F′)))
+  where
+    regroup : (c k f x y : Bool) → (((c && k) && f) || (x || (c && y))) ≡ ((c && ((k && f) || y)) || x)
+    regroup = taut 5 0 _ _ _ tt
+
+-- "A trap maps."
+trap-climb : (C F : Codes) → Bounded codeCount C → meet codeCount (caughtCodes C) F ≡ meet codeCount C (leadsTrap F)
+unfolding meet some
+trap-climb C F low =
+    let X : Codes = λ j. C (suc (suc (suc j))) && F (suc (suc j)) in
+    let Y : Codes = λ j. C (suc (suc (suc j))) && (ltb j 7 && F (suc (suc j))) in
+    let last : X 7 ≡ false = rw (low 10 (omega arith)) in
+    let rest : some 8 X ≡ some 7 Y = some-last 7 X last ∙ some-alike 7 X Y (λ j h. rw (lt-ltb j 7 h)) in
+    rw rest (regroup (C 0) (C 1) (C 2) (F 0) (F 1) (some 7 Y))
+  where
+    regroup : (a b c f g x : Bool) → (((a || c) && f) || ((b && g) || x)) ≡ ((a && f) || ((b && g) || ((c && f) || x)))
+    regroup = taut 6 0 _ _ _ tt
+
+-- the larger of two codes is one of F: the other code is at most as large, or it is a common code of R and F at least as large
+above : (C R F : Codes) → meet 10 (atLeast C R) F ≡ meet 10 (atLeast F R) C
+unfolding meet
+above C R F = some-alike 10 (both (atLeast C R) F) (both (atLeast F R) C) (λ j h. turn (C j) (upto R j) (F j))
+  where
+    turn : (c u f : Bool) → ((c && u) && f) ≡ ((f && u) && c)
+    turn = taut 3 0 _ _ _ tt
+
+below : (C R F : Codes) → meet 10 (atLeast R C) F ≡ meet 10 (downto 10 (both R F)) C
+unfolding meet
+below C R F =
+    some-alike 10 (both (atLeast R C) F) (λ j. both R F j && upto C j) (λ j h. turn (R j) (upto C j) (F j))
+    ∙ exchange 10 C (both R F) ∙ meet-flip 10 C (downto 10 (both R F))
+  where
+    turn : (r u f : Bool) → ((r && u) && f) ≡ ((r && f) && u)
+    turn = taut 3 0 _ _ _ tt
+
+-- "A parallel takes maxima of C with the sibling's R, and with 0 if the sibling has 0 in K or R."
+parallel-climb : (ended : Bool) (C R F : Codes) → meet codeCount (join (maxima C R) (when ended C)) F ≡ meet codeCount C (leadsParallel ended R F)
+parallel-climb ended C R F =
+    let up : Codes = atLeast F R in
+    let down : Codes = downto codeCount (both R F) in
+    let climbed : meet 10 (join (maxima C R) (when ended C)) F ≡ ((meet 10 up C || meet 10 down C) || (ended && meet 10 F C)) =
+    meet-join 10 (maxima C R) (when ended C) F
+    ∙ (λ i. (meet-join 10 (atLeast C R) (atLeast R C) F ∙ (λ j. above C R F j || below C R F j)) i || meet-when 10 ended C F i)
+    ∙ (λ i. (meet 10 up C || meet 10 down C) || (ended && meet-flip 10 C F i)) in
+    let led : meet 10 C (leadsParallel ended R F) ≡ ((meet 10 up C || meet 10 down C) || (ended && meet 10 F C)) =
+    meet-flip 10 C (leadsParallel ended R F) ∙ meet-join 10 (join up down) (when ended F) C
+    ∙ (λ i. meet-join 10 up down C i || meet-when 10 ended F C i) in
+    climbed ∙ sym led
+
+-- "A loop reached with 0 in C is the fault."
+loop-climb : (fault : Bool) (C F : Codes) → ((fault || C 0) || meet codeCount C F) ≡ (fault || meet codeCount C (with0 F))
+unfolding meet some
+loop-climb fault C F = regroup fault (C 0) (F 0) (some 9 (λ j. C (suc j) && F (suc j)))
+  where
+    regroup : (f a x y : Bool) → ((f || a) || ((a && x) || y)) ≡ (f || ((a && true) || y))
+    regroup = taut 4 0 _ _ _ tt
+
+-- the first climb that is at fault, or comes with a code of F
+unfoldable firstMeeting : Codes → List Climb → Found
+firstMeeting F [] = Clear
+firstMeeting F (c ∷ cs) = pick (c .fault || meet codeCount (c .codes) F) (At (c .at)) (firstMeeting F cs)
+
+unfoldable AllLow : List Climb → Type 0
+AllLow [] = Unit
+AllLow (c ∷ cs) = Bounded codeCount (c .codes) × AllLow cs
+
+first-through : (f : Codes → Codes) (F G : Codes) → ((C : Codes) → Bounded codeCount C → meet codeCount (f C) F ≡ meet codeCount C G)
+    → (cs : List Climb) → AllLow cs → firstMeeting F (map (through f) cs) ≡ firstMeeting G cs
+unfolding firstMeeting AllLow
+first-through f F G same [] low = refl
+first-through f F G same (c ∷ cs) low = rw (same (c .codes) (low .0), first-through f F G same cs (low .1))
+
+first-looped : (F : Codes) (cs : List Climb) → firstMeeting F (map looped cs) ≡ firstMeeting (with0 F) cs
+unfolding firstMeeting
+first-looped F [] = refl
+first-looped F (c ∷ cs) = rw (loop-climb (c .fault) (c .codes) F, first-looped F cs)
+
+first-append : (F : Codes) (xs ys : List Climb) → firstMeeting F (xs ++ ys) ≡ orElse (firstMeeting F xs) (firstMeeting F ys)
+unfolding firstMeeting orElse pick
+first-append F [] ys = refl
+first-append F (c ∷ cs) ys = rw (first-append F cs ys) (go (c .fault || meet codeCount (c .codes) F))
+  where
+    go : (b : Bool)
+        → pick b (At (c .at)) (orElse (firstMeeting F cs) (firstMeeting F ys)) ≡ orElse (pick b (At (c .at)) (firstMeeting F cs)) (firstMeeting F ys)
+    go true = refl
+    go false = refl
+
+-- every climb comes with codes below ten
+low-append : (xs ys : List Climb) → AllLow xs → AllLow ys → AllLow (xs ++ ys)
+unfolding AllLow
+low-append [] ys a b = b
+low-append (c ∷ cs) ys a b = (a .0, low-append cs ys (a .1) b)
+
+low-through : (f : Codes → Codes) → ((C : Codes) → Bounded codeCount C → Bounded codeCount (f C)) → (cs : List Climb) → AllLow cs
+    → AllLow (map (through f) cs)
+unfolding AllLow
+low-through f keeps [] low = tt
+low-through f keeps (c ∷ cs) low = (keeps (c .codes) (low .0), low-through f keeps cs (low .1))
+
+low-looped : (cs : List Climb) → AllLow cs → AllLow (map looped cs)
+unfolding AllLow
+low-looped [] low = tt
+low-looped (c ∷ cs) low = (low .0, low-looped cs (low .1))
+
+besides-low : (q : Stmt) → Low q → (C : Codes) → Bounded codeCount C → Bounded codeCount (besides q C)
+besides-low q low C c =
+    bounded-join 10 (maxima C (R q)) (when (K q 0 || R q 0) C) (bounded-maxima 10 C (R q) c (R-low q low)) (bounded-when 10 (K q 0 || R q 0) C c)
+
+caught-low : (C : Codes) → Bounded codeCount C → Bounded codeCount (caughtCodes C)
+caught-low C c = bounded-caught 10 C (omega arith) (bounded-more 11 C (omega arith) c)
+
+climbs-low : (n : StmtNo) (t : Stmt) → Low t → AllLow (climbs n t)
+unfolding climbs AllLow Low
+climbs-low n (leaf l) low = tt
+climbs-low n (one Loop p) low = low-looped (climbs (further n 1) p) (climbs-low (further n 1) p low)
+climbs-low n (one (Watching s) p) low = climbs-low (further n 1) p low
+climbs-low n (one Trap p) low = low-through caughtCodes caught-low (climbs (further n 1) p) (climbs-low (further n 1) p low)
+climbs-low n (one (Signal s) p) low = (R-low (one (Signal s) p) low, climbs-low (further n 1) p low)
+climbs-low n (two Sequence p q) low =
+    let xs : List Climb = climbs (further n 1) p in
+    let replacing : Codes → Codes = λ C. replaced C (K q) in
+    low-append (map (through replacing) xs) (climbs (further n (1 + size p)) q)
+    (low-through replacing (λ C c. bounded-replaced 10 C (K q) c (K-low q (low .1))) xs (climbs-low (further n 1) p (low .0)))
+    (climbs-low (further n (1 + size p)) q (low .1))
+climbs-low n (two (Present s) p q) low =
+    low-append (climbs (further n 1) p) (climbs (further n (1 + size p)) q) (climbs-low (further n 1) p (low .0))
+    (climbs-low (further n (1 + size p)) q (low .1))
+climbs-low n (two Parallel p q) low =
+    let xs : List Climb = climbs (further n 1) p in
+    let ys : List Climb = climbs (further n (1 + size p)) q in (
+      R-low (two Parallel p q) low,
+      low-append (map (through (besides q)) xs) (map (through (besides p)) ys)
+          (low-through (besides q) (besides-low q (low .1)) xs (climbs-low (further n 1) p (low .0)))
+          (low-through (besides p) (besides-low p (low .0)) ys (climbs-low (further n (1 + size p)) q (low .1))),
+    )
+
+-- the walk down finds the first climb that meets F
+led-climbs : (F : Codes) (n : StmtNo) (t : Stmt) → Low t → firstLed F n t ≡ firstMeeting F (climbs n t)
+unfolding firstLed firstMeeting climbs Low leadsOne leadsLeft leadsRight pick
+led-climbs F n (leaf l) low = refl
+led-climbs F n (one Loop p) low = led-climbs (with0 F) (further n 1) p low ∙ sym (first-looped F (climbs (further n 1) p))
+led-climbs F n (one (Watching s) p) low = led-climbs F (further n 1) p low
+led-climbs F n (one Trap p) low =
+    let cs : List Climb = climbs (further n 1) p in
+    led-climbs (leadsTrap F) (further n 1) p low
+    ∙ sym (first-through caughtCodes F (leadsTrap F) (λ C c. trap-climb C F c) cs (climbs-low (further n 1) p low))
+led-climbs F n (one (Signal s) p) low = rw (led-climbs F (further n 1) p low)
+led-climbs F n (two Sequence p q) low =
+    let n₁ : StmtNo = further n 1 in
+    let n₂ : StmtNo = further n (1 + size p) in
+    let replacing : Codes → Codes = λ C. replaced C (K q) in
+    let left = led-climbs (leadsSequence (K q) F) n₁ p (low .0)
+    ∙ sym (first-through replacing F (leadsSequence (K q) F) (λ C c. sequence-climb C (K q) F) (climbs n₁ p) (climbs-low n₁ p (low .0))) in
+    (λ i. orElse (left i) (led-climbs F n₂ q (low .1) i)) ∙ sym (first-append F (map (through replacing) (climbs n₁ p)) (climbs n₂ q))
+led-climbs F n (two (Present s) p q) low =
+    let n₁ : StmtNo = further n 1 in
+    let n₂ : StmtNo = further n (1 + size p) in
+    (λ i. orElse (led-climbs F n₁ p (low .0) i) (led-climbs F n₂ q (low .1) i)) ∙ sym (first-append F (climbs n₁ p) (climbs n₂ q))
+led-climbs F n (two Parallel p q) low =
+    let n₁ : StmtNo = further n 1 in
+    let n₂ : StmtNo = further n (1 + size p) in
+    let G : Stmt → Codes = λ v. leadsParallel (K v 0 || R v 0) (R v) F in
+    let side : (v : Stmt) (C : Codes) → Bounded codeCount C → meet codeCount (besides v C) F ≡ meet codeCount C (G v) =
+    λ v C c. parallel-climb (K v 0 || R v 0) C (R v) F in
+    let left = led-climbs (G q) n₁ p (low .0) ∙ sym (first-through (besides q) F (G q) (side q) (climbs n₁ p) (climbs-low n₁ p (low .0))) in
+    let right = led-climbs (G p) n₂ q (low .1) ∙ sym (first-through (besides p) F (G p) (side p) (climbs n₂ q) (climbs-low n₂ q (low .1))) in
+    let rest = (λ i. orElse (left i) (right i)) ∙ sym (first-append F (map (through (besides q)) (climbs n₁ p)) (map (through (besides p)) (climbs n₂ q))) in
+    λ i. pick (meet codeCount (R (two Parallel p q)) F) (At n) (rest i)
+
+-- with no code to meet, that is the first at fault
+meet-empty : (C : Codes) → meet codeCount C empty ≡ false
+unfolding meet some
+meet-empty C = some-alike codeCount (both C empty) empty (λ j h. and-false (C j))
+
+first-fault : (cs : List Climb) → firstMeeting empty cs ≡ firstFault cs
+unfolding firstMeeting firstFault
+first-fault [] = refl
+first-fault (c ∷ cs) = rw (meet-empty (c .codes), or-false (c .fault), first-fault cs)
+
+pub led-twice : (n : StmtNo) (t : Stmt) → Low t → firstLed empty n t ≡ twice n t
+unfolding twice
+led-twice n t low = led-climbs empty n t low ∙ first-fault (climbs n t)

@@ -1,0 +1,10 @@
+pub mod Bools
+pub mod Words
+pub mod Meaning
+pub mod Bounds
+pub mod Columns
+pub mod Standing
+pub mod Filling
+pub mod Climbs
+pub mod Leading
+pub mod Searching

@@ -1,0 +1,43 @@
+-- `leads_parallel` meets its contract: the codes of f from the other side's on, those up to a common one, and f where the other may stand ended.
+use Rattle.sets.proofs.Leading.{parallel-leads}
+use Rattle.bits.specs.Bits.{has}
+use borrow.Author.Needs.{needs}
+use Rattle.sets.proofs.leads_parallel.Statement.{statement}
+use Rattle.sets.proofs.leads_parallel.Tie as tie
+
+at-least-requires : tie.Need-at-least-requires
+at-least-requires c κs = search needs
+
+up-to-common-requires : tie.Need-up-to-common-requires
+up-to-common-requires c κs = search needs
+
+join-requires : tie.Need-join-requires
+join-requires c κs = search needs
+
+ends-requires : tie.Need-ends-requires
+ends-requires c κs = search needs
+
+only-if-requires : tie.Need-only-if-requires
+only-if-requires c κs = search needs
+
+join-requires-2 : tie.Need-join-requires-2
+join-requires-2 c κs = search needs
+
+returns : tie.Need-returns
+returns c =
+    let entry = c .before .before .before .before .before .before in
+    let common = c .before .before .before .before .up-to-common .ensures 10 (entry .pre) .codes in
+    parallel-leads (has (entry .args .q .r)) (has (entry .args .f)) (c .before .before .before .before .before .at-least .ensures .0) common
+    (c .before .before .before .join .ensures) (c .before .before .ends .ensures) (c .before .only-if .ensures) (c .join2 .ensures)
+
+pub leads-parallel-spec : {M : Type 1} → statement M
+leads-parallel-spec =
+    tie.close
+    (tie.spec
+    at-least-requires
+    up-to-common-requires
+    join-requires
+    ends-requires
+    only-if-requires
+    join-requires-2
+    returns)

@@ -1,0 +1,71 @@
+-- `two_sets` meets its contract: each arm is the law of its statement.
+use borrow.Author.Needs.{needs}
+use Rattle.sets.proofs.Meaning.{means-sequence, means-present, means-parallel}
+use Rattle.sets.proofs.two_sets.Statement.{statement}
+use Rattle.sets.proofs.two_sets.Tie as tie
+
+enum-told : tie.Need-enum-told
+enum-told c = search needs
+
+replace-0-requires : tie.Need-replace-0-requires
+replace-0-requires c κs = search needs
+
+replace-0-requires-2 : tie.Need-replace-0-requires-2
+replace-0-requires-2 c κs = search needs
+
+join-requires : tie.Need-join-requires
+join-requires c κs = search needs
+
+enum-told-2 : tie.Need-enum-told-2
+enum-told-2 c = search needs
+
+join-requires-2 : tie.Need-join-requires-2
+join-requires-2 c κs = search needs
+
+join-requires-3 : tie.Need-join-requires-3
+join-requires-3 c κs = search needs
+
+enum-told-3 : tie.Need-enum-told-3
+enum-told-3 c = search needs
+
+maxima-of-requires : tie.Need-maxima-of-requires
+maxima-of-requires c κs = search needs
+
+parallel-resumes-requires : tie.Need-parallel-resumes-requires
+parallel-resumes-requires c κs = search needs
+
+returns : tie.Need-returns
+returns c =
+    let entry = c .before .before .before .before .before in
+    λ t v left right. rw (c .before .before .before .enum-told .given .1)
+    (means-sequence (entry .args .p) (entry .args .q) t v left right (c .before .before .replace-0 .ensures) (c .before .replace-02 .ensures) (c .join .ensures))
+
+returns-2 : tie.Need-returns-2
+returns-2 c =
+    let entry = c .before .before .before .before in
+    λ t v left right. rw (c .before .before .enum-told2 .given .1)
+    (means-present (entry .args .p) (entry .args .q) t v left right _ (c .before .join2 .ensures) (c .join3 .ensures))
+
+returns-3 : tie.Need-returns-3
+returns-3 c =
+    let entry = c .before .before .before .before in
+    λ t v left right. rw (c .before .before .enum-told3 .given .1)
+    (means-parallel (entry .args .p) (entry .args .q) t v left right (c .before .maxima-of .ensures) (c .parallel-resumes .ensures t v left right))
+
+pub two-sets-spec : {M : Type 1} → statement M
+two-sets-spec =
+    tie.close
+    (tie.spec
+    enum-told
+    replace-0-requires
+    replace-0-requires-2
+    join-requires
+    enum-told-2
+    join-requires-2
+    join-requires-3
+    enum-told-3
+    maxima-of-requires
+    parallel-resumes-requires
+    returns
+    returns-2
+    returns-3)

@@ -1,0 +1,5 @@
+pub mod Codes
+pub mod Static
+pub mod Faults
+pub mod Words
+pub mod Leads
