@@ -1,6 +1,8 @@
-// Words of a line, and bytes in hex.
-ghost use Prim.Native.Nat.{_≤_};
+// Words of a line: bytes in hex, and numbers in hex and decimal.
+ghost use Prim.Native.Nat.{_≤_, _<_};
+ghost use mathlib.Core.Path.{_≡_};
 ghost use Rattle.io.specs.Counts.{Counts};
+ghost use Rattle.answers.specs.Words.{wordEnd, digitOf, withDigit, valueOf};
 
 // Whether a text is bytes in hex, and how many; none where it is not.
 pub struct Hex {
@@ -8,9 +10,16 @@ pub struct Hex {
     pub len: usize,
 }
 
+// A number, or a text that is none.
+pub enum Value {
+    Is(u64),
+    Bad,
+}
+
 // Where the first word ends: at the first blank, or at the end.
 pub fn word_end(line: &[u8]) -> usize
     ensures { λ r. ⌜ Counts r (now (line .entry)) ⌝ }
+    ensures { λ r. ⌜ r ≡ wordEnd (now (line .entry)) ⌝ }
 {
     let mut i = 0;
     while i < line.len() {
@@ -24,7 +33,7 @@ pub fn word_end(line: &[u8]) -> usize
 
 // A hex digit of either case, or 16.
 fn digit(b: u8) -> u8
-    ensures { λ r. ⌜ r ≤ 16 ⌝ }
+    ensures { λ r. ⌜ (r ≡ digitOf b) × (r ≤ 16) ⌝ }
 {
     match b {
         48..=57 => b - 48,
@@ -87,4 +96,59 @@ pub fn hex_bytes(text: &[u8], out: &mut [u8]) -> Hex
         };
     }
     digit_pairs(text, out)
+}
+
+fn wide(d: u8) -> u64
+    ensures { λ r. ⌜ r ≡ d ⌝ }
+{
+    d as u64
+}
+
+// A digit more, or the largest number where there is none so large.
+fn with_digit(value: u64, base: u64, d: u64) -> u64
+    requires { ⌜ 0 < base ⌝ }
+    ensures { λ r. ⌜ r ≡ withDigit base value d ⌝ }
+{
+    if value > (u64::MAX - d) / base {
+        return u64::MAX;
+    }
+    value * base + d
+}
+
+// Digits of a base, at least one and at most so many.
+fn value_of(text: &[u8], base: u64, most: usize) -> Value
+    requires { ⌜ 0 < base ⌝ }
+    ensures { λ r. ⌜ r ≡ valueOf base most (now (text .entry)) ⌝ }
+{
+    if text.len() == 0 {
+        return Value::Bad;
+    }
+    if text.len() > most {
+        return Value::Bad;
+    }
+    let mut value: u64 = 0;
+    let mut i = 0;
+    while i < text.len() {
+        let d = wide(digit(text[i]));
+        if d >= base {
+            return Value::Bad;
+        }
+        value = with_digit(value, base, d);
+        i += 1;
+    }
+    Value::Is(value)
+}
+
+// A state or an event: 1 to 16 hex digits.
+pub fn hex_value(text: &[u8]) -> Value
+    ensures { λ r. ⌜ r ≡ valueOf 16 16 (now (text .entry)) ⌝ }
+{
+    value_of(text, 16, 16)
+}
+
+// A length: 1 to 20 decimal digits.
+pub fn decimal_value(text: &[u8]) -> Value
+    ensures { λ r. ⌜ r ≡ valueOf 10 20 (now (text .entry)) ⌝ }
+{
+    value_of(text, 10, 20)
 }

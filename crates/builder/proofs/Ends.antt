@@ -5,7 +5,7 @@ use mathlib.Core.List.{List, [], _∷_, _++_, map}
 use native.Mathlib.Omega.{arith}
 use native.Mathlib.Numerals.{add-one}
 use lib.ListN.{length, set, length-map, replicate}
-use lib.Seq.{sets, length-sets, set-comm}
+use lib.Seq.{sets, length-sets}
 use borrow.Author.Tests.{lt-ltb, le-ltb}
 use Rattle.number.specs.Counts.{cellNo, signalNo, stmtNo, haltNo}
 use Rattle.number.specs.Number.{pick}
@@ -24,7 +24,7 @@ use Rattle.gates.specs.declared.Cell.{Cell}
 use Rattle.gates.specs.declared.Cell.the-variants.{Low, High, Input, Or, Butnot, Register}
 use Rattle.gates.specs.Cells.{low, high}
 use Rattle.gates.specs.Store.{word, Wrote}
-use Rattle.gates.proofs.Laws.{wrote-more}
+use Rattle.gates.proofs.Laws.{wrote-more, set-below}
 use Rattle.builder.specs.declared.NetlistBuilt.{NetlistBuilt}
 use Rattle.builder.specs.declared.NetlistBuilt.the-variants.{Cells, Refused}
 use Rattle.builder.specs.Equations.{Built, listOf}
@@ -105,16 +105,11 @@ unfolding signalCells
 length-signals L s zero = refl
 length-signals L s (suc k) = ap suc (length-signals L (suc s) k)
 
--- stores at other places may be made in either order
-set-first : (l : List ℕ) (j k x : ℕ) (u : List ℕ) → j < k → set (sets l k u) j x ≡ sets (set l j x) k u
-set-first l j k x [] h = refl
-set-first l j k x (y ∷ u) h =
-    set-first (set l k y) j (suc k) x u (omega arith) ∙ ap (λ (r : List ℕ). sets r (suc k) u) (set-comm l k j y x (λ e. omega arith))
-
+-- the same of several stores
 sets-first : (l : List ℕ) (j k : ℕ) (u v : List ℕ) → j + length v ≤ k → sets (sets l k u) j v ≡ sets (sets l j v) k u
 sets-first l j k u [] h = refl
 sets-first l j k u (x ∷ v) h =
-    ap (λ (r : List ℕ). sets r (suc j) v) (set-first l j k x u (omega arith)) ∙ sets-first (set l j x) (suc j) k u v (omega arith)
+    ap (λ (r : List ℕ). sets r (suc j) v) (set-below l j k x u (omega arith)) ∙ sets-first (set l j x) (suc j) k u v (omega arith)
 
 -- the column with the constants and the inputs
 abbrev pub withInputs : ℕ → List ℕ → List ℕ

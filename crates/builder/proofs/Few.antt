@@ -19,6 +19,7 @@ use Rattle.gates.specs.declared.Cell.the-variants.{Or, And, Butnot}
 use Rattle.gates.specs.Cells.{New, low, isLow, orAt, andAt, butnotAt, signalCell}
 use Rattle.gates.specs.Rows.{code, only, withCode0, trapRow, Row, orRow, pairs, onlyIf, Level, levelAt, lastAt, Highest, highest, parallelRow}
 use Rattle.gates.proofs.Laws.{gate}
+use Rattle.gates.proofs.ParallelRow.{pairs-length}
 use Rattle.builder.specs.Equations.{Built, listOf, past, given, buildExit, buildEmit, buildHalt, build}
 use Rattle.builder.specs.Equations.{buildSequence, buildLoop, buildPresent, buildWatching, buildParallel, buildTrap}
 
@@ -66,13 +67,6 @@ or-row-long [] [] n e = refl
 or-row-long [] (q ∷ qs) n e = absurd (omega arith)
 or-row-long (p ∷ ps) [] n e = refl
 or-row-long (p ∷ ps) (q ∷ qs) n e = ap suc (or-row-long ps qs (past n (orAt n p q)) (omega arith))
-
-pairs-long : (ps qs : List CellNo) → length ps ≡ length qs → length (pairs ps qs) ≡ length ps
-unfolding pairs
-pairs-long [] [] e = refl
-pairs-long [] (q ∷ qs) e = absurd (omega arith)
-pairs-long (p ∷ ps) [] e = absurd (omega arith)
-pairs-long (p ∷ ps) (q ∷ qs) e = ap suc (pairs-long ps qs (omega arith))
 
 only-if-few : (keep : Bool) (w : New) → length (w .cells) ≤ 1 → length ((onlyIf keep w) .cells) ≤ 1
 only-if-few true w h = h
@@ -251,7 +245,7 @@ parallel-sized k m n i keep p q hp hq =
     let n₂ : ℕ = suc n + length (p .cells) + length (q .cells) in
     let s : New = orAt n₂ (p .sel) (q .sel) in
     let cs : List (CellNo × CellNo) = pairs (p .codes) (q .codes) in
-    let ten : length cs ≡ 10 = pairs-long (p .codes) (q .codes) (hp .ten ∙ sym (hq .ten)) ∙ hp .ten in
+    let ten : length cs ≡ 10 = pairs-length (p .codes) (q .codes) (hp .ten ∙ sym (hq .ten)) ∙ hp .ten in
     let c : Highest = parallelRow (past n₂ s) keep cs in
     let row = row-few cs (past n₂ s) keep in
     record {

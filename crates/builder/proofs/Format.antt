@@ -155,7 +155,8 @@ module _ (I U : ℕ) (t : Stmt) where
       subst (λ (cs : List Cell). AllWithin (1 + I) m cs) (sym netlist-front)
       (append-within (1 + I) m front (root .cells) (tt, (tt, rest)) (body .operands))
 
-  boot-split : netlist I U t
+  -- the cells from boot on
+  pub boot-split : netlist I U t
       ≡ (Low ∷ (High ∷ (inputCells 1 I ++ signalCells (root .lists) (1 + I) U))) ++ (Register high ∷ (Butnot high (cellNo (2 + I + U)) ∷ root .cells))
   unfolding netlist
   boot-split =

@@ -19,7 +19,6 @@ ghost use Rattle.gates.specs.Cells.{signalCell};
 ghost use Rattle.number.specs.Counts.{ofSignal, ofStmt, cellNo};
 ghost use Rattle.bits.specs.Bits.{has};
 ghost use Rattle.sheet.specs.Stmt.{Stmt, leaf, size};
-ghost use Rattle.sheet.specs.Read.{further};
 ghost use Rattle.sheet.specs.declared.Binary.the-variants.{Parallel};
 ghost use Rattle.sets.specs.Words.{LowLeaf};
 ghost use Rattle.gates.specs.Rows.{withCode0};
@@ -347,14 +346,6 @@ fn close_two(
     }
 }
 
-// The number of a statement's first part.
-fn next(n: StmtNo) -> StmtNo
-    requires { ⌜ ofStmt n < 4096 ⌝ }
-    ensures { λ r. ⌜ r ≡ further n 1 ⌝ }
-{
-    StmtNo::new(n.number() + 1)
-}
-
 // Statement n: its cells from `count` on, the signals' lists, sel and codes. `sets` has K and R of each statement.
 fn statement(
     rows: &[u64],
@@ -373,7 +364,7 @@ fn statement(
 {
     let row = sheet::row_at(rows, n);
     let h = row.head;
-    let first = next(n);
+    let first = sheet::first_part(n);
     match h {
         Head::Zero(l) => leaf_cells(cells, lists, l, count, g, r, kill),
         Head::One(u) => {

@@ -21,7 +21,7 @@ map-append : (u v : List Cell) → map word (u ++ v) ≡ map word u ++ map word 
 map-append [] v = refl
 map-append (c ∷ u) v = ap (λ (l : List ℕ). word c ∷ l) (map-append u v)
 
-sets-append : (l : List ℕ) (n : ℕ) (u v : List ℕ) → sets l n (u ++ v) ≡ sets (sets l n u) (n + length u) v
+pub sets-append : (l : List ℕ) (n : ℕ) (u v : List ℕ) → sets l n (u ++ v) ≡ sets (sets l n u) (n + length u) v
 sets-append l n [] v = rw (add-zero n)
 sets-append l n (x ∷ u) v =
     let e : suc n + length u ≡ n + suc (length u) = omega arith in
@@ -36,7 +36,8 @@ wrote-more {l} {l₁} {l₂} {n} {n₁} {n₂} {u} {v} p q =
       counted = rw (length-append u v) (omega arith);
     }
 
-set-below : (l : List ℕ) (n m v : ℕ) (u : List ℕ) → n < m → set (sets l m u) n v ≡ sets (set l n v) m u
+-- stores at other places may be made in either order
+pub set-below : (l : List ℕ) (n m v : ℕ) (u : List ℕ) → n < m → set (sets l m u) n v ≡ sets (set l n v) m u
 set-below l n m v [] h = refl
 set-below l n m v (x ∷ u) h =
     set-below (set l m x) n (suc m) v u (omega arith) ∙ ap (λ (r : List ℕ). sets r (suc m) u) (set-comm l m n x v (λ e. omega arith))

@@ -57,7 +57,7 @@ pairs-at (p ∷ ps) [] (suc j) = pairs-at ps [] j
 pairs-at (p ∷ ps) (q ∷ qs) zero = refl
 pairs-at (p ∷ ps) (q ∷ qs) (suc j) = pairs-at ps qs j
 
-pairs-length : (ps qs : List CellNo) → length ps ≡ length qs → length (pairs ps qs) ≡ length ps
+pub pairs-length : (ps qs : List CellNo) → length ps ≡ length qs → length (pairs ps qs) ≡ length ps
 unfolding pairs
 pairs-length [] [] e = refl
 pairs-length [] (q ∷ qs) e = absurd (omega arith)

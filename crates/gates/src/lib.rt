@@ -50,7 +50,7 @@ fn packed(kind: u64, x: CellNo, y: CellNo) -> u64
 }
 
 // A cell in one word.
-fn word_of(c: Cell) -> u64
+pub fn word_of(c: Cell) -> u64
     ensures { λ r. ⌜ r ≡ word c ⌝ }
 {
     match c {

@@ -4,3 +4,5 @@ pub mod Searches
 pub mod Hunts
 pub mod Unique
 pub mod Cases
+pub mod Closing
+pub mod ByTest

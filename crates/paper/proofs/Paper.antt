@@ -1,9 +1,9 @@
--- The table holds: each row's columns are what the definitions compute of its sheet, events, sets, states and values. And P5's cells have no answer
--- but CYCLE 2.
+-- The table holds: each row's columns are what the definitions compute of its sheet, events, sets, states and values. Its files read back as their cells. And P5's
+-- cells have no answer but CYCLE 2.
 use mathlib.Core.Path.{_≡_, refl}
 use mathlib.Core.List.{List, map}
 use Prim.Native.Nat.{ℕ}
-use Rattle.number.specs.Number.{numberAt, pick}
+use Rattle.number.specs.Number.{numberAt, pick, numberBytes}
 use Rattle.bits.specs.Bits.{has}
 use Rattle.sheet.specs.Stmt.{size, haltCount, localCount}
 use Rattle.sheet.specs.Read.{signalOf, naming, emitting, exiting, haltAt, localAt, trapAt, ofKind, headOfKind, inside, andThen, parts, readStmt, ended, rootRead, afterOutputs, afterInputs, readSheet}
@@ -22,10 +22,16 @@ use Rattle.order.specs.declared.Ordering.{Ordering}
 use Rattle.order.specs.declared.Ordering.the-variants.{Cycle}
 use Rattle.order.specs.Paths.{Answers}
 use Rattle.order.proofs.Cases.{p5-answer}
-use Rattle.paper.specs.Cases.{reading, faultOf, answered, agreeing, moments, runsOf, statesOf, solving, clocks, cellsOf, clocksOf, computed, cases, p5Sheet}
+use Rattle.files.specs.File.{cellsBytes, fileBytes, kindFits}
+use Rattle.files.specs.Judge.{manySignals, judgeCount, judgeKind}
+use Rattle.files.specs.Read.{netOf, secondOf, pairOf, inputOf, gate, gateOf, registerOf, operandsAt, ofKind as ofKindOf, afterKind, readCell, before as beforeCells}
+use Rattle.files.specs.Read.{andThen as andThenCells, readCells, ended as endedCells, bodyAt, counted, afterCount, countAt, afterOutputs as afterOutputsOf}
+use Rattle.files.specs.Read.{afterInputs as afterInputsOf, readFile}
+use Rattle.paper.specs.Cases.{reading, faultOf, answered, agreeing, moments, runsOf, statesOf, solving, clocks, cellsOf, clocksOf, fileOf, fileCells, readBack, filed, computed, cases, p5Sheet}
 
 pub record Paper : Type 0 where
   pub table : map computed cases ≡ cases
+  pub files : map readBack cases ≡ map filed cases
   pub cycle : (order : List ℕ) (r : Ordering) → Answers (cellsOf (readSheet p5Sheet)) order r → r ≡ Cycle (cellNo 2)
 
 pub paper : Paper
@@ -33,5 +39,7 @@ unfolding numberAt pick has size haltCount localCount signalOf naming emitting e
     readStmt ended rootRead afterOutputs afterInputs readSheet K R hasHalts orElse instant climbs firstFault twice wordOf start active resume react
     noBits apart fits reading faultOf answered agreeing moments runsOf statesOf orAt andAt butnotAt orRow pairs highest parallelRow registers operands
     build buildHalt buildEmit buildSequence buildLoop buildPresent buildWatching buildParallel buildTrap netlist rootOf inputCells signalCells solving
-    clocks cellsOf clocksOf computed
-paper = record { table = refl; cycle = p5-answer }
+    clocks cellsOf clocksOf numberBytes cellsBytes fileBytes kindFits manySignals judgeCount judgeKind netOf secondOf pairOf inputOf gate gateOf registerOf
+    operandsAt ofKindOf afterKind readCell beforeCells andThenCells readCells endedCells bodyAt counted afterCount countAt afterOutputsOf afterInputsOf readFile fileOf
+    fileCells readBack filed computed
+paper = record { table = refl; files = refl; cycle = p5-answer }

@@ -21,6 +21,8 @@ use Rattle.gates.specs.declared.Cell.the-variants.{Low, High, Input, Or, And, B
 use Rattle.gates.specs.Values.{registers, before, cellAt, value, operands, nextOf}
 use Rattle.builder.specs.Netlist.{sheetNetlist, netlist}
 use Rattle.run.specs.Words.{outputsOf}
+use Rattle.files.specs.File.{sheetFile, fileBytes}
+use Rattle.files.specs.Read.{FileOutcome, netlist as file, faulty as noFile, readFile}
 
 -- what reading answers: "0 is acceptance, place 0, with statement .. counts", "a refusal's counts .. are 0"
 pub record Reading : Type 0 where
@@ -122,7 +124,7 @@ clocks I O cells S (c ∷ cs) =
     ∷ clocks I O cells next cs
 
 -- A row of the table: the sheet; what reading answers, and what the checks answer after it; moments from the fresh state on; states; the cells of the
--- netlist, and its clocks from the fresh state on.
+-- netlist, and its clocks from the fresh state on; the netlist's file.
 pub record Case : Type 0 where
   pub bytes : List ℕ
   pub read : Reading
@@ -131,6 +133,7 @@ pub record Case : Type 0 where
   pub states : List Judged
   pub cells : List Cell
   pub clocked : List Clocked
+  pub file : List ℕ
 
 unfoldable pub runsOf : SheetOutcome → List Moment → List Moment
 unfolding moments localCount
@@ -148,10 +151,27 @@ unfolding netlist
 cellsOf (faulty f) = []
 cellsOf (sheet w) = sheetNetlist w
 
--- a column of cells that says nothing is not computed
-abbrev said : List Cell → List Cell → List Cell
+-- a column of cells or bytes that says nothing is not computed
+abbrev said : {A B : Type 0} → List A → List B → List B
 said [] cs = []
 said (c ∷ k) cs = cs
+
+-- the file of a sheet that was read
+unfoldable pub fileOf : SheetOutcome → List ℕ
+fileOf (faulty f) = []
+fileOf (sheet w) = fileBytes (sheetFile w)
+
+-- the cells that were read in a file
+unfoldable pub fileCells : FileOutcome → List Cell
+fileCells (noFile f) = []
+fileCells (file w) = w .cells
+
+-- what a row's file reads back as, and the cells that it is the file of
+unfoldable pub readBack : Case → List Cell
+readBack k = said (k .file) (fileCells (readFile (k .file)))
+
+unfoldable pub filed : Case → List Cell
+filed k = said (k .file) (cellsOf (readSheet (k .bytes)))
 
 unfoldable pub clocksOf : SheetOutcome → List Clocked → List Clocked
 unfolding cellsOf clocks
@@ -160,7 +180,7 @@ clocksOf (sheet w) cs = clocks (w .inputs) (w .outputs) (cellsOf (sheet w)) 0 cs
 
 -- the row that the definitions compute from a row's sheet, events, sets E, states and values of the nets
 unfoldable pub computed : Case → Case
-unfolding reading answered runsOf statesOf cellsOf clocksOf readSheet
+unfolding reading answered runsOf statesOf cellsOf clocksOf readSheet fileOf
 computed k =
     let s : SheetOutcome = readSheet (k .bytes) in
     record {
@@ -171,21 +191,22 @@ computed k =
       states = statesOf s (k .states);
       cells = said (k .cells) (cellsOf s);
       clocked = clocksOf s (k .clocked);
+      file = said (k .file) (fileOf s);
     }
 
 -- Columns of which nothing is said are empty.
 abbrev accepted : List ℕ → ℕ → List Moment → List Judged → Case
 accepted s n ms js =
-    record { bytes = s; read = record { number = 0; place = 0; statements = n }; checked = answer 0 0; runs = ms; states = js; cells = []; clocked = [] }
+    record { bytes = s; read = record { number = 0; place = 0; statements = n }; checked = answer 0 0; runs = ms; states = js; cells = []; clocked = []; file = [] }
 
 abbrev refused : List ℕ → ℕ → ℕ → Case
 refused s x place =
-    record { bytes = s; read = record { number = x; place = place; statements = 0 }; checked = answer x place; runs = []; states = []; cells = []; clocked = [] }
+    record { bytes = s; read = record { number = x; place = place; statements = 0 }; checked = answer x place; runs = []; states = []; cells = []; clocked = []; file = [] }
 
 -- read, and refused by INSTANT or TWICE
 abbrev unchecked : List ℕ → ℕ → ℕ → ℕ → Case
 unchecked s n x place =
-    record { bytes = s; read = record { number = 0; place = 0; statements = n }; checked = answer x place; runs = []; states = []; cells = []; clocked = [] }
+    record { bytes = s; read = record { number = 0; place = 0; statements = n }; checked = answer x place; runs = []; states = []; cells = []; clocked = []; file = [] }
 
 -- with the event j, E agrees, and gives the emissions and the next state
 abbrev moment : ℕ → ℕ → ℕ → ℕ → Moment
@@ -201,7 +222,12 @@ clock j v outputs next = record { event = j; values = v; solves = true; outputs 
 -- a row with what is said of its netlist
 abbrev built : List Cell → List Clocked → Case → Case
 built cs ts k =
-    record { bytes = k .bytes; read = k .read; checked = k .checked; runs = k .runs; states = k .states; cells = cs; clocked = ts }
+    record { bytes = k .bytes; read = k .read; checked = k .checked; runs = k .runs; states = k .states; cells = cs; clocked = ts; file = k .file }
+
+-- a row with its netlist's file
+abbrev withFile : List ℕ → Case → Case
+withFile s k =
+    record { bytes = k .bytes; read = k .read; checked = k .checked; runs = k .runs; states = k .states; cells = k .cells; clocked = k .clocked; file = s }
 
 -- P1's cells, P5's, and those of the sheet of the trace
 abbrev p1Cells : List Cell
@@ -218,21 +244,45 @@ traceCells =
     ∷ (Or (cellNo 5) (cellNo 12) ∷ (Butnot (cellNo 1) (cellNo 2) ∷ (Register (cellNo 10) ∷ (And (cellNo 7) (cellNo 8)
     ∷ (Or (cellNo 6) (cellNo 9) ∷ (And (cellNo 1) (cellNo 8) ∷ (And (cellNo 11) (cellNo 2) ∷ []))))))))))))
 
+-- the files of P4's second sheet, P10, P11, P12 and the sheet of the trace
+abbrev p4File : List ℕ
+p4File =
+    0 ∷ 0 ∷ 8 ∷ 0 ∷ 1 ∷ 6 ∷ 1 ∷ 5 ∷ 1 ∷ 2 ∷ 3 ∷ 3 ∷ 0 ∷ 6 ∷ 7 ∷ 4 ∷ 1 ∷ 5 ∷ 3 ∷ 4 ∷ 6 ∷ []
+
+abbrev p10File : List ℕ
+p10File =
+    2 ∷ 1 ∷ 35 ∷ 0 ∷ 1 ∷ 2 ∷ 1 ∷ 2 ∷ 2 ∷ 3 ∷ 26 ∷ 0 ∷ 6 ∷ 1 ∷ 5 ∷ 1 ∷ 5 ∷ 3 ∷ 6 ∷ 32 ∷ 3 ∷ 0 ∷ 0 ∷ 5 ∷ 1 ∷ 2 ∷ 6 ∷ 13 ∷ 4 ∷ 9 ∷ 10 ∷ 3 ∷ 7 ∷ 11 ∷ 5 ∷ 12
+    ∷ 8 ∷ 4 ∷ 1 ∷ 10 ∷ 4 ∷ 14 ∷ 2 ∷ 5 ∷ 1 ∷ 3 ∷ 6 ∷ 20 ∷ 4 ∷ 16 ∷ 17 ∷ 3 ∷ 7 ∷ 18 ∷ 5 ∷ 19 ∷ 8 ∷ 4 ∷ 1 ∷ 17 ∷ 4 ∷ 21 ∷ 3 ∷ 3 ∷ 10 ∷ 17 ∷ 3 ∷ 12 ∷ 19 ∷ 3
+    ∷ 15 ∷ 22 ∷ 5 ∷ 25 ∷ 24 ∷ 5 ∷ 1 ∷ 1 ∷ 6 ∷ 30 ∷ 4 ∷ 27 ∷ 28 ∷ 3 ∷ 26 ∷ 29 ∷ 4 ∷ 1 ∷ 28 ∷ 4 ∷ 31 ∷ 1 ∷ 3 ∷ 23 ∷ 28 ∷ 3 ∷ 24 ∷ 30 ∷ []
+
+abbrev p11File : List ℕ
+p11File =
+    0 ∷ 1 ∷ 7 ∷ 0 ∷ 1 ∷ 3 ∷ 0 ∷ 0 ∷ 6 ∷ 1 ∷ 5 ∷ 1 ∷ 3 ∷ 3 ∷ 0 ∷ 6 ∷ 3 ∷ 4 ∷ 4 ∷ []
+
+abbrev p12File : List ℕ
+p12File =
+    0 ∷ 0 ∷ 15 ∷ 0 ∷ 1 ∷ 6 ∷ 1 ∷ 5 ∷ 1 ∷ 2 ∷ 3 ∷ 0 ∷ 0 ∷ 6 ∷ 8 ∷ 4 ∷ 1 ∷ 5 ∷ 3 ∷ 3 ∷ 6 ∷ 5 ∷ 7 ∷ 4 ∷ 6 ∷ 12 ∷ 4 ∷ 1 ∷ 9 ∷ 3 ∷ 3 ∷ 10 ∷ 5 ∷ 11 ∷ 4 ∷ 3 ∷ 5
+    ∷ 9 ∷ 3 ∷ 7 ∷ 11 ∷ []
+
+abbrev traceFile : List ℕ
+traceFile =
+    1 ∷ 1 ∷ 13 ∷ 0 ∷ 1 ∷ 2 ∷ 1 ∷ 3 ∷ 12 ∷ 0 ∷ 6 ∷ 1 ∷ 5 ∷ 1 ∷ 4 ∷ 3 ∷ 5 ∷ 12 ∷ 5 ∷ 1 ∷ 2 ∷ 6 ∷ 10 ∷ 4 ∷ 7 ∷ 8 ∷ 3 ∷ 6 ∷ 9 ∷ 4 ∷ 1 ∷ 8 ∷ 4 ∷ 11 ∷ 2 ∷ []
+
 -- P5's sheet
 abbrev pub p5Sheet : List ℕ
 p5Sheet = 0 ∷ 0 ∷ 10 ∷ 5 ∷ 1 ∷ 0 ∷ 2 ∷ 1 ∷ []
 
 abbrev pub cases : List Case
 cases =
-    -- P1: next state 1, also of the netlist
-    built p1Cells (clock 0 10 0 1 ∷ []) (accepted (0 ∷ 0 ∷ 0 ∷ []) 1 (moment 0 1 0 1 ∷ []) [])
+    -- P1: next state 1, also of the netlist, and its file
+    withFile (0 ∷ 0 ∷ 4 ∷ 0 ∷ 1 ∷ 6 ∷ 1 ∷ 5 ∷ 1 ∷ 2 ∷ []) (built p1Cells (clock 0 10 0 1 ∷ []) (accepted (0 ∷ 0 ∷ 0 ∷ []) 1 (moment 0 1 0 1 ∷ []) []))
     -- P2: states 3, 3, also of the netlist
     ∷ built [] (clock 0 74 0 3 ∷ clock 0 118 0 3 ∷ []) (accepted (0 ∷ 0 ∷ 1 ∷ []) 1 (moment 0 1 0 3 ∷ moment 0 1 0 3 ∷ []) [])
     -- P3: SHORT at 2
     ∷ refused (0 ∷ 0 ∷ []) 1 2
     -- P4: INSTANT 0, and its second sheet, which reads alike and is accepted
     ∷ unchecked (0 ∷ 0 ∷ 4 ∷ 0 ∷ []) 2 9 0
-    ∷ accepted (0 ∷ 0 ∷ 4 ∷ 1 ∷ []) 2 [] []
+    ∷ withFile p4File (accepted (0 ∷ 0 ∷ 4 ∷ 1 ∷ []) 2 [] [])
     -- P5, whose CYCLE 2 stands beside the table
     ∷ built p5Cells [] (accepted p5Sheet 4 [] [])
     -- P6: EXIT 3, and its second sheet
@@ -246,16 +296,16 @@ cases =
     -- P9: TWICE 2
     ∷ unchecked (2 ∷ 1 ∷ 4 ∷ 3 ∷ 7 ∷ 6 ∷ 1 ∷ 1 ∷ 6 ∷ 2 ∷ 1 ∷ 2 ∷ 3 ∷ []) 8 10 2
     -- P10: events 0, 6, 2, states 7, 9, 7, output (bit 3) at the second only; state 11 does not fit, and 5 does
-    ∷ built [] (clock 0 17198297794 0 7 ∷ clock 6 26959070270 8 9 ∷ clock 2 32499118246 0 7 ∷ [])
+    ∷ withFile p10File (built [] (clock 0 17198297794 0 7 ∷ clock 6 26959070270 8 9 ∷ clock 2 32499118246 0 7 ∷ [])
     (accepted (2 ∷ 1 ∷ 4 ∷ 3 ∷ 7 ∷ 6 ∷ 1 ∷ 1 ∷ 6 ∷ 2 ∷ 1 ∷ 3 ∷ 2 ∷ 3 ∷ 6 ∷ 0 ∷ 1 ∷ []) 11
     (moment 0 1 0 7 ∷ moment 6 15 8 9 ∷ moment 2 3 0 7 ∷ [])
-    (judged 11 false ∷ judged 5 true ∷ []))
+    (judged 11 false ∷ judged 5 true ∷ [])))
     -- P11: nothing emitted
-    ∷ accepted (0 ∷ 1 ∷ 8 ∷ 3 ∷ 8 ∷ 7 ∷ 9 ∷ 3 ∷ 9 ∷ 2 ∷ 2 ∷ 1 ∷ []) 7 (moment 0 1 0 1 ∷ []) []
+    ∷ withFile p11File (accepted (0 ∷ 1 ∷ 8 ∷ 3 ∷ 8 ∷ 7 ∷ 9 ∷ 3 ∷ 9 ∷ 2 ∷ 2 ∷ 1 ∷ []) 7 (moment 0 1 0 1 ∷ []) [])
     -- P12: state 3 does not fit
-    ∷ accepted (0 ∷ 0 ∷ 7 ∷ 1 ∷ 1 ∷ []) 3 [] (judged 3 false ∷ [])
+    ∷ withFile p12File (accepted (0 ∷ 0 ∷ 7 ∷ 1 ∷ 1 ∷ []) 3 [] (judged 3 false ∷ []))
     -- the trace's sheet: 13 cells
-    ∷ built traceCells [] (accepted (1 ∷ 1 ∷ 4 ∷ 3 ∷ 6 ∷ 1 ∷ 1 ∷ 2 ∷ 2 ∷ []) 5 [] [])
+    ∷ withFile traceFile (built traceCells [] (accepted (1 ∷ 1 ∷ 4 ∷ 3 ∷ 6 ∷ 1 ∷ 1 ∷ 2 ∷ 2 ∷ []) 5 [] []))
     -- a watching without halts has no 0 in R, so it does not stand ended beside the halt
     ∷ accepted (0 ∷ 0 ∷ 8 ∷ 7 ∷ 6 ∷ 0 ∷ 9 ∷ 2 ∷ 1 ∷ []) 5 [] (judged 3 false ∷ [])
     ∷ []

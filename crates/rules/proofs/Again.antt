@@ -29,23 +29,23 @@ use Rattle.rules.proofs.Codes.{right-ends, left-ends, or-left, or-right
 use Rattle.rules.proofs.NoBits.{no-bits, bit-off}
 
 -- H has those of t's halts that A has
-abbrev On : Stmt → Halts → Halts → Type 0
+abbrev pub On : Stmt → Halts → Halts → Type 0
 On t H A = (h : HaltNo) → inHalts t h ≡ true → H h ≡ A h
 
 or-none : (a b : Bool) → a ≡ false → b ≡ false → (a || b) ≡ false
 or-none = taut 2 2 _ _ _ tt
 
 module _ (b : Binary) (p q : Stmt) (H A : Halts) where
-  on-left : On (two b p q) H A → On p H A
+  pub on-left : On (two b p q) H A → On p H A
   unfolding inHalts
   on-left f h e = f h (or-left (inHalts p h) (inHalts q h) e)
 
-  on-right : On (two b p q) H A → On q H A
+  pub on-right : On (two b p q) H A → On q H A
   unfolding inHalts
   on-right f h e = f h (or-right (inHalts p h) (inHalts q h) e)
 
 -- where none of its halts is set, t is not active, and nothing is to be kept apart
-none : (H : Halts) (t : Stmt) → On t H empty → active H t ≡ false
+pub none : (H : Halts) (t : Stmt) → On t H empty → active H t ≡ false
 unfolding active inHalts
 none H (leaf Nothing) f = refl
 none H (leaf (Halt k)) f = f k (eq-eqb (ofHalt k) (ofHalt k) refl)
@@ -90,10 +90,10 @@ idle-good : (t : Stmt) (c : ℕ) → same c 1 ≡ false → Good t c empty
 idle-good t c e = record { own = λ h. refl; active′ = λ H f. none H t f ∙ sym e; apart′ = λ H f. none-apart H t f }
 
 -- no halt has a number on both sides
-abbrev Disjoint : Stmt → Stmt → Type 0
+abbrev pub Disjoint : Stmt → Stmt → Type 0
 Disjoint p q = (h : HaltNo) → (inHalts p h && inHalts q h) ≡ false
 
-sides-disjoint : (a : HaltNo) (p q : Stmt) → Numbered a p → Numbered (haltsOn a (haltCount p)) q → Disjoint p q
+pub sides-disjoint : (a : HaltNo) (p q : Stmt) → Numbered a p → Numbered (haltsOn a (haltCount p)) q → Disjoint p q
 sides-disjoint a p q x y h = go (inHalts p h) refl (inHalts q h) refl
   where
     go : (l : Bool) → inHalts p h ≡ l → (r : Bool) → inHalts q h ≡ r → (l && r) ≡ false
@@ -104,16 +104,16 @@ sides-disjoint a p q x y h = go (inHalts p h) refl (inHalts q h) refl
     go true l false r = refl
     go false l r′ r = refl
 
-off-side : (a p q : Bool) → (a && not p) ≡ false → (p && q) ≡ false → q ≡ true → a ≡ false
+pub off-side : (a p q : Bool) → (a && not p) ≡ false → (p && q) ≡ false → q ≡ true → a ≡ false
 off-side = taut 3 3 _ _ _ tt
 
-swap : (p q : Bool) → (p && q) ≡ false → (q && p) ≡ false
+pub swap : (p q : Bool) → (p && q) ≡ false → (q && p) ≡ false
 swap = taut 2 1 _ _ _ tt
 
-own-left : (a p q : Bool) → (a && not p) ≡ false → (a && not (p || q)) ≡ false
+pub own-left : (a p q : Bool) → (a && not p) ≡ false → (a && not (p || q)) ≡ false
 own-left = taut 3 1 _ _ _ tt
 
-own-right : (a p q : Bool) → (a && not q) ≡ false → (a && not (p || q)) ≡ false
+pub own-right : (a p q : Bool) → (a && not q) ≡ false → (a && not (p || q)) ≡ false
 own-right = taut 3 1 _ _ _ tt
 
 one-side : (x y c : Bool) → x ≡ c → y ≡ false → (x || y) ≡ c
@@ -212,7 +212,7 @@ caught-one (suc (suc zero)) = refl
 caught-one (suc (suc (suc c))) = refl
 
 -- a parallel, whose sides may end where they do
-own-both : (a b p q : Bool) → (a && not p) ≡ false → (b && not q) ≡ false → ((a || b) && not (p || q)) ≡ false
+pub own-both : (a b p q : Bool) → (a && not p) ≡ false → (b && not q) ≡ false → ((a || b) && not (p || q)) ≡ false
 own-both = taut 4 2 _ _ _ tt
 
 kept-apart : (p q e f x y : Bool) → (q ≡ false → e ≡ true) → (p ≡ false → f ≡ true) → x ≡ true → y ≡ true
@@ -225,10 +225,10 @@ kept-apart p true e f x y er el hx hy = side p (el)
 kept-apart true false e f x y er el hx hy = rw (er refl, hx, hy)
 kept-apart false false e f x y er el hx hy = rw (hx, hy)
 
-drop-right : (a b : Bool) → b ≡ false → (a || b) ≡ a
+pub drop-right : (a b : Bool) → b ≡ false → (a || b) ≡ a
 drop-right = taut 2 1 _ _ _ tt
 
-drop-left : (a b : Bool) → a ≡ false → (a || b) ≡ b
+pub drop-left : (a b : Bool) → a ≡ false → (a || b) ≡ b
 drop-left = taut 2 1 _ _ _ tt
 
 -- a code that is at most 1, and not 1, is 0
@@ -386,7 +386,7 @@ next-off t o g n (suc h) l = go (inHalts t (haltNo h)) refl (g .own (haltNo h))
         off : (a : Bool) → (a && not false) ≡ false → a ≡ false
         off = taut 1 1 _ _ _ tt
 
-next-halts : (o : Outcome) (h : HaltNo) → haltsOf (nextState o) h ≡ o .halts h
+pub next-halts : (o : Outcome) (h : HaltNo) → haltsOf (nextState o) h ≡ o .halts h
 next-halts o h = let bit : 1 + ofHalt h ≡ suc (ofHalt h) = omega arith in ap (nextState o) bit
 
 both : (a b : Bool) → a ≡ true → b ≡ true → (a && b) ≡ true
@@ -403,7 +403,7 @@ second-of : (a b : Bool) → (a && b) ≡ true → b ≡ true
 second-of = taut 2 1 _ _ _ tt
 
 -- a state that fits and has boot on
-booted-apart : (S : State) (t : Stmt) → fits S t ≡ true → S boot ≡ true → apart (haltsOf S) t ≡ true
+pub booted-apart : (S : State) (t : Stmt) → fits S t ≡ true → S boot ≡ true → apart (haltsOf S) t ≡ true
 unfolding fits pick
 booted-apart S t f on = second-of (noBits (63 - haltCount t) (1 + haltCount t) S) (apart (haltsOf S) t) (rw on at f)
 
@@ -435,9 +435,16 @@ module _ {i o : ℕ} {t : Stmt} (proper : Proper i o t) (S : State) (rest : atRe
       let inside = halt-within (haltNo 0) t (proper-numbered proper) h e in
       bit-off 63 1 S rest (1 + ofHalt h) (omega arith) (omega (arith, inside .1, proper .halts))
 
+  -- none of its halts is set, and nothing is to be kept apart
+  pub rest-inactive : active (haltsOf S) t ≡ false
+  rest-inactive = none (haltsOf S) t halts-off
+
+  pub rest-apart : apart (haltsOf S) t ≡ true
+  rest-apart = none-apart (haltsOf S) t halts-off
+
   pub rest-idle : S boot ≡ true → (E : Signals) → react E S t ≡ idle
   unfolding react pick
-  rest-idle on E = rw (on, none (haltsOf S) t halts-off)
+  rest-idle on E = rw (on, rest-inactive)
 
   pub rest-fits : S boot ≡ true → fits S t ≡ true
   unfolding fits pick atRest
@@ -445,7 +452,7 @@ module _ {i o : ℕ} {t : Stmt} (proper : Proper i o t) (S : State) (rest : atRe
       rw on
       (both (noBits (63 - haltCount t) (1 + haltCount t) S) (apart (haltsOf S) t)
       (no-bits (63 - haltCount t) (1 + haltCount t) S (λ j l r. bit-off 63 1 S rest j (omega arith) (omega (arith, proper .halts))))
-      (none-apart (haltsOf S) t halts-off))
+      rest-apart)
 
   pub rest-stays : S boot ≡ true → (E : Signals) → atRest (nextState (react E S t)) ≡ true
   unfolding atRest

@@ -43,7 +43,7 @@ unfolding orElse
 clear-second (At n) g e = found-none n e
 clear-second Clear g e = e
 
-clear-loop : (n : StmtNo) (b : Bool) (f : Found) → pick b (At n) f ≡ Clear → (b ≡ false) × (f ≡ Clear)
+pub clear-loop : (n : StmtNo) (b : Bool) (f : Found) → pick b (At n) f ≡ Clear → (b ≡ false) × (f ≡ Clear)
 unfolding pick
 clear-loop n true f e = found-none n e
 clear-loop n false f e = (refl, e)
@@ -85,7 +85,7 @@ replaced-on A B zero x y a e b = go (y .code) b
     go (suc m) h = rw (a, h, or-true)
 replaced-on A B (suc k) x y a e b = rw e (or-left _ _ a)
 
-replaced-in : (A B : Codes) (x y : Outcome) → A (x .code) ≡ true → B (y .code) ≡ true → replaced A B ((followed x y) .code) ≡ true
+pub replaced-in : (A B : Codes) (x y : Outcome) → A (x .code) ≡ true → B (y .code) ≡ true → replaced A B ((followed x y) .code) ≡ true
 replaced-in A B x y a b = replaced-on A B (x .code) x y a refl b
 
 upto-zero : (A : Codes) (m : ℕ) → A zero ≡ true → upto A m ≡ true
@@ -102,13 +102,13 @@ maxima-in A B (suc a) (suc b) p q =
     maxima-on (A (suc (larger a b))) (upto (λ x. B (suc x)) (larger a b)) (B (suc (larger a b))) (upto (λ x. A (suc x)) (larger a b)) (B 0) (A 0)
     (maxima-in (λ x. A (suc x)) (λ x. B (suc x)) a b p q)
 
-caught-in : (A : Codes) (a : ℕ) → A a ≡ true → caughtCodes A (caught a) ≡ true
+pub caught-in : (A : Codes) (a : ℕ) → A a ≡ true → caughtCodes A (caught a) ≡ true
 caught-in A zero p = or-left _ _ p
 caught-in A (suc zero) p = p
 caught-in A (suc (suc zero)) p = rw (p, or-true)
 caught-in A (suc (suc (suc a))) p = p
 
-less0-in : (A : Codes) (a : ℕ) → A zero ≡ false → A a ≡ true → less0 A a ≡ true
+pub less0-in : (A : Codes) (a : ℕ) → A zero ≡ false → A a ≡ true → less0 A a ≡ true
 less0-in A zero none p = sym none ∙ p
 less0-in A (suc a) none p = p
 

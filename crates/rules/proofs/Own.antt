@@ -20,7 +20,7 @@ use Rattle.rules.specs.Rules.{Signals, Halts, Outcome, idle, thenOn, fol
 use Rattle.rules.specs.States.{State, boot, haltsOf, react}
 use Rattle.rules.proofs.Codes.{or-left, or-right}
 
-or-cases : {A : Type 0} (a b : Bool) → (a ≡ true → A) → (b ≡ true → A) → (a || b) ≡ true → A
+pub or-cases : {A : Type 0} (a b : Bool) → (a ≡ true → A) → (b ≡ true → A) → (a || b) ≡ true → A
 or-cases true b f g e = f refl
 or-cases false b f g e = g e
 

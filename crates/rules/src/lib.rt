@@ -151,19 +151,12 @@ pub fn at_rest(state: u64) -> bool
     none_set(state, 1, 63)
 }
 
-// The number of a statement's first part, and of its second: the end of the first one's row.
-fn first_part(n: StmtNo) -> StmtNo
-    requires { ⌜ ofStmt n < 4096 ⌝ }
-    ensures { λ r. ⌜ r ≡ further n 1 ⌝ }
-{
-    StmtNo::new(n.number() + 1)
-}
-
+// The number of a statement's second part: the end of the first one's row.
 fn second_part(rows: &[u64], n: StmtNo) -> StmtNo
     requires { ⌜ (ofStmt n < 4096) × (ofStmt n + 1 < length (now rows)) ⌝ }
     ensures { λ r. ⌜ r ≡ rowAt (now (rows .entry)) (further n 1) .end ⌝ }
 {
-    let left = sheet::row_at(rows, first_part(n));
+    let left = sheet::row_at(rows, sheet::first_part(n));
     left.end
 }
 
@@ -204,10 +197,10 @@ pub fn start(rows: &[u64], n: StmtNo, e: u64) -> Reaction
     let head = row.head;
     match head {
         Head::Zero(l) => leaf(l),
-        Head::One(u) => passed(u, start(rows, first_part(n), e)),
+        Head::One(u) => passed(u, start(rows, sheet::first_part(n), e)),
         Head::Two(b) => match b {
             Binary::Sequence => {
-                let p = start(rows, first_part(n), e);
+                let p = start(rows, sheet::first_part(n), e);
                 if p.code != 0 {
                     return p;
                 }
@@ -215,12 +208,12 @@ pub fn start(rows: &[u64], n: StmtNo, e: u64) -> Reaction
             }
             Binary::Present(s) => {
                 if bits::member(e, s.number() as u32) {
-                    return start(rows, first_part(n), e);
+                    return start(rows, sheet::first_part(n), e);
                 }
                 start(rows, second_part(rows, n), e)
             }
             Binary::Parallel => {
-                let p = start(rows, first_part(n), e);
+                let p = start(rows, sheet::first_part(n), e);
                 beside(p, start(rows, second_part(rows, n), e))
             }
         },
@@ -287,21 +280,21 @@ pub fn resume(rows: &[u64], n: StmtNo, e: u64, state: u64) -> Reaction
             if cut_off(u, e) {
                 return idle();
             }
-            let p = resume(rows, first_part(n), e, state);
+            let p = resume(rows, sheet::first_part(n), e, state);
             if restarts(u, p.code) {
-                return followed(p, start(rows, first_part(n), e));
+                return followed(p, start(rows, sheet::first_part(n), e));
             }
             passed(u, p)
         }
         Head::Two(b) => {
             if is_parallel(b) {
-                let p = resume(rows, first_part(n), e, state);
+                let p = resume(rows, sheet::first_part(n), e, state);
                 return beside(p, resume(rows, second_part(rows, n), e, state));
             }
-            if !inside(rows, first_part(n), state) {
+            if !inside(rows, sheet::first_part(n), state) {
                 return resume(rows, second_part(rows, n), e, state);
             }
-            let p = resume(rows, first_part(n), e, state);
+            let p = resume(rows, sheet::first_part(n), e, state);
             if goes_on(b, p.code) {
                 return followed(p, start(rows, second_part(rows, n), e));
             }
@@ -363,9 +356,9 @@ fn apart(rows: &[u64], sets: &[u64], n: StmtNo, state: u64) -> bool
     let head = row.head;
     match head {
         Head::Zero(_) => true,
-        Head::One(_) => apart(rows, sets, first_part(n), state),
+        Head::One(_) => apart(rows, sets, sheet::first_part(n), state),
         Head::Two(b) => {
-            let first = first_part(n);
+            let first = sheet::first_part(n);
             let second = second_part(rows, n);
             let p = inside(rows, first, state);
             let q = inside(rows, second, state);

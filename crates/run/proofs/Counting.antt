@@ -98,7 +98,7 @@ module _ (v : CellNo → Bool) where
   operands-append (Butnot x y ∷ a) b = operands-append a b
   operands-append (Register x ∷ a) b = ap (λ (l : List Bool). v x ∷ l) (operands-append a b)
 
-  operands-length : (cs : List Cell) → length (operands v cs) ≡ registers cs
+  pub operands-length : (cs : List Cell) → length (operands v cs) ≡ registers cs
   unfolding operands registers
   operands-length [] = refl
   operands-length (Low ∷ a) = operands-length a

@@ -56,7 +56,7 @@ pub fn state_ok(k: u32, state: u64) -> bool
 }
 
 // One more than k where the cell is a register.
-fn tally(c: Cell, k: u32) -> u32
+pub fn tally(c: Cell, k: u32) -> u32
     requires { ⌜ k < 65536 ⌝ }
     ensures { λ r. ⌜ r ≡ Values.tally c k ⌝ }
 {

@@ -26,7 +26,7 @@ digit-bit : (b : Bool) (y : ℕ) → (eqb ((digit b + 2 * y) % 2) 1 ≡ b) × ((
 digit-bit true y = let low : (1 + 2 * y) % 2 ≡ 1 = omega arith in (rw low, omega arith)
 digit-bit false y = let low : (0 + 2 * y) % 2 ≡ 0 = omega arith in (rw low, omega arith)
 
-has-word : (n : ℕ) (A : Codes) → Bounded n A → has (wordOf n A) ≡ A
+pub has-word : (n : ℕ) (A : Codes) → Bounded n A → has (wordOf n A) ≡ A
 unfolding wordOf
 has-word zero A a = fun-ext λ j. has-empty j ∙ sym (a j (omega arith))
 has-word (suc n) A a =
@@ -34,7 +34,7 @@ has-word (suc n) A a =
     by-bits (digit (A 0) + 2 * rest) A (digit-bit (A 0) rest .0)
     (rw (digit-bit (A 0) rest .1) (has-word n (λ j. A (suc j)) (λ j past. a (suc j) (omega arith))))
 
-word-small : (n : ℕ) (A : Codes) → wordOf n A < 2 ^ n
+pub word-small : (n : ℕ) (A : Codes) → wordOf n A < 2 ^ n
 unfolding wordOf
 word-small zero A = omega arith
 word-small (suc n) A = omega (arith, word-small n (λ j. A (suc j)), one-bit (A 0))

@@ -18,14 +18,11 @@ use Rattle.sheet.specs.Read.{further}
 use Rattle.sheet.specs.Rows.{rowAt, lay, haltsOn}
 use Rattle.sheet.specs.Form.{Proper}
 use Rattle.sheet.proofs.Notions.{proper-exits}
-use Rattle.sheet.proofs.Walk.{size-pos, is-leaf, is-one, is-two, holds-second, within, few-numbers, holds-proper}
+use Rattle.sheet.proofs.Walk.{is-leaf, is-one, is-two, holds-second, within, few-numbers, holds-proper}
 use Rattle.sets.specs.Words.{LowLeaf, Low, Stands}
 use Rattle.sets.proofs.Bounds.{exits-low}
 
--- the number after n, a row's head and its end, as the walks come by them
-pub next-is : {n m : StmtNo} {k : ℕ} → m ≡ stmtNo (k + 1) → k ≡ ofStmt n → m ≡ further n 1
-next-is made number = made ∙ ap (λ (k : ℕ). stmtNo (k + 1)) number
-
+-- a row's head and its end, as the walks come by them
 pub head-is : {row row′ : Row} {h : Head} → row ≡ row′ → row .head ≡ h → row′ .head ≡ h
 head-is read is = ap (λ (r : Row). r .head) (sym read) ∙ is
 
@@ -47,9 +44,9 @@ module _ {rows : List ℕ} {n : StmtNo} (s : Stands rows n) where
   pub stands-within : ofStmt n < length rows
   stands-within = within rows n (s .first) (s .stmt) (s .holds)
 
-  -- the number after it fits
-  pub stands-next : ofStmt n + 1 < 65536
-  stands-next = omega (arith, few-numbers rows n (s .first) (s .stmt) (s .holds), size-pos (s .stmt))
+  -- its number fits in a row
+  pub stands-number : ofStmt n < 4096
+  stands-number = omega (arith, few-numbers rows n (s .first) (s .stmt) (s .holds))
 
   pub stands-leaf : {l : Leaf} → rowAt rows n .head ≡ Zero l → s .stmt ≡ leaf l
   stands-leaf e = is-leaf rows n (s .first) (s .stmt) (s .holds) e

@@ -222,18 +222,18 @@ pub fn fill(rows: &[u64], sets: &mut [u64], n: StmtNo) -> Both
 {
     let row = sheet::row_at(rows, n);
     let head = row.head;
-    let next = n.number() + 1;
+    let first = sheet::first_part(n);
     match head {
         Head::Zero(l) => entered(sets, n, leaf_sets(l)),
         Head::One(u) => {
             let halts = row.first.number() < row.past.number();
-            let p = fill(rows, sets, StmtNo::new(next));
+            let p = fill(rows, sets, first);
             entered(sets, n, one_sets(u, halts, p))
         }
         Head::Two(b) => {
-            let p = fill(rows, sets, StmtNo::new(next));
-            let second = sheet::row_at(rows, StmtNo::new(next));
-            let q = fill(rows, sets, second.end);
+            let p = fill(rows, sets, first);
+            let left = sheet::row_at(rows, first);
+            let q = fill(rows, sets, left.end);
             entered(sets, n, two_sets(b, p, q))
         }
     }
@@ -296,7 +296,7 @@ pub fn first_instant(rows: &[u64], sets: &[u64], n: StmtNo) -> Found
 {
     let row = sheet::row_at(rows, n);
     let head = row.head;
-    let first = StmtNo::new(n.number() + 1);
+    let first = sheet::first_part(n);
     match head {
         Head::Zero(_) => Found::Clear,
         Head::One(u) => {
@@ -418,7 +418,7 @@ fn first_led(rows: &[u64], sets: &[u64], n: StmtNo, f: u64) -> Found
     if is_led(head, own.r, f) {
         return Found::At(n);
     }
-    let first = StmtNo::new(n.number() + 1);
+    let first = sheet::first_part(n);
     match head {
         Head::Zero(_) => Found::Clear,
         Head::One(u) => first_led(rows, sets, first, leads_one(u, f)),

@@ -1,6 +1,6 @@
 -- The laws of `readStmt` that the reader's proof stands on: how one level goes, where it stops, and what a head that was read says.
 use mathlib.Core.Path.{_≡_, refl, ap, _∙_, fun-ext}
-use mathlib.Core.Bool.{Bool, false, _||_}
+use mathlib.Core.Bool.{Bool, true, false, _||_}
 use mathlib.Core.List.{List}
 use Prim.Native.Nat.{ℕ, zero, suc, _+_, _-_, _<_, _≤_}
 use native.Mathlib.Omega.{arith}
@@ -29,6 +29,12 @@ use Rattle.sheet.specs.Rows.{headFrom}
 use Rattle.sheet.specs.Answer.{around, LocalFits}
 use Rattle.sheet.proofs.Induction.{HeadIs, headed, read-induction}
 use Rattle.sheet.proofs.Induction.{nothing, halt, emit, sequence, loop, present, watching, parallel, trap, exit, local}
+
+-- two tests that lead to the same are one
+pub pick-either : {A : Type 0} (a b : Bool) (x y : A) → pick a x (pick b x y) ≡ pick (a || b) x y
+unfolding pick
+pick-either true b x y = refl
+pick-either false b x y = refl
 
 -- what the last arm of a `match` knows: k is none of the n numbers from `low` on
 abbrev pub Passed : ℕ → ℕ → ℕ → Type 0

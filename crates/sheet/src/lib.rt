@@ -13,7 +13,8 @@ ghost use Rattle.number.specs.Counts.{ofSignal, ofStmt, ofHalt, stmtNo, haltNo}
 ghost use Rattle.number.specs.Number.{numberAt, cursor};
 ghost use Rattle.number.specs.Refusals.{fault};
 ghost use Rattle.sheet.specs.Stmt.{kindOf};
-ghost use Rattle.sheet.specs.Read.{past, signalAt, naming, emitting, exiting, haltAt, localAt, trapAt, ofKind, headAt, inside, readStmt, rootRead, readSheet};
+ghost use Rattle.sheet.specs.Read.{past, signalAt, naming, emitting, exiting, haltAt, localAt, trapAt};
+ghost use Rattle.sheet.specs.Read.{ofKind, headAt, inside, further, readStmt, rootRead, readSheet};
 ghost use Rattle.sheet.specs.Rows.{operandOf, headFrom, packed, unpacked, rowAt};
 ghost use Rattle.sheet.specs.Answer.{around, LocalFits, Noted, DidStmt, DidSheet};
 
@@ -145,7 +146,7 @@ fn emit_head(s: &[u8], e: Env, m: Marks) -> HeadRead
     match read_signal(s, e, m) {
         SignalRead::Refused(f) => HeadRead::Refused(f),
         SignalRead::Named(x, next) => {
-            if x.number() <= e.inputs {
+            if limits::tick_or_input(x, e.inputs) {
                 return refused(Refusal::Emit, at);
             }
             HeadRead::Read(Head::Zero(Leaf::Emit(x)), next)
@@ -173,7 +174,6 @@ fn watching_head(s: &[u8], e: Env, m: Marks) -> HeadRead
 
 // The level of an exit: EXIT unless it is 2..1+d.
 fn exit_head(s: &[u8], e: Env, m: Marks) -> HeadRead
-    requires { ⌜ e .traps < 64 ⌝ }
     ensures { λ h. ⌜ h ≡ exiting (around e) m (numberAt (now (s .entry)) (m .at)) ⌝ }
 {
     let at = m.at;
@@ -181,10 +181,7 @@ fn exit_head(s: &[u8], e: Env, m: Marks) -> HeadRead
     let NumberRead::Value(k, next) = r else {
         return HeadRead::Refused(number::fault_of(r));
     };
-    if k < 2 {
-        return refused(Refusal::Exit, at);
-    }
-    if 1 + (e.traps as u32) < k {
+    if limits::no_level(k, e.traps) {
         return refused(Refusal::Exit, at);
     }
     HeadRead::Read(Head::Zero(Leaf::Exit((k % 65536) as u16)), m.past(next))
@@ -196,7 +193,7 @@ fn halt_head(place: usize, m: Marks) -> HeadRead
 {
     let halt = m.halts;
     let signals = m.signals;
-    if 63 <= halt.number() {
+    if limits::halts_full(halt) {
         return refused(Refusal::Count, place);
     }
     let halts = HaltNo::new(halt.number() + 1);
@@ -216,7 +213,7 @@ fn local_head(place: usize, m: Marks) -> HeadRead
 {
     let signal = m.signals;
     let halts = m.halts;
-    if 64 <= signal.number() {
+    if limits::signals_full(signal) {
         return refused(Refusal::Count, place);
     }
     let signals = SignalNo::new(signal.number() + 1);
@@ -234,7 +231,7 @@ fn local_head(place: usize, m: Marks) -> HeadRead
 fn trap_head(place: usize, e: Env, m: Marks) -> HeadRead
     ensures { λ h. ⌜ h ≡ trapAt place (around e) m ⌝ }
 {
-    if 8 <= e.traps {
+    if limits::traps_full(e.traps) {
         return refused(Refusal::Count, place);
     }
     HeadRead::Read(Head::One(Unary::Trap), m)
@@ -242,7 +239,6 @@ fn trap_head(place: usize, e: Env, m: Marks) -> HeadRead
 
 // The statement of kind k, which was read at `place`; m is past its kind.
 fn head_of_kind(s: &[u8], e: Env, place: usize, k: u32, m: Marks) -> HeadRead
-    requires { ⌜ e .traps < 64 ⌝ }
     ensures { λ h. ⌜ h ≡ ofKind (now (s .entry)) (around e) place m k ⌝ }
 {
     match k {
@@ -263,7 +259,6 @@ fn head_of_kind(s: &[u8], e: Env, place: usize, k: u32, m: Marks) -> HeadRead
 
 // The head of the statement at the marks.
 fn read_head(s: &[u8], e: Env, m: Marks) -> HeadRead
-    requires { ⌜ e .traps < 64 ⌝ }
     ensures { λ h. ⌜ h ≡ headAt (now (s .entry)) (around e) m ⌝ }
 {
     let at = m.at;
@@ -408,6 +403,14 @@ fn note(rows: &mut [u64], n: StmtNo, r: Row)
     rows[i] = pack(r);
 }
 
+// The number after n: that of its first part, if it has any.
+pub fn first_part(n: StmtNo) -> StmtNo
+    requires { ⌜ ofStmt n < 4096 ⌝ }
+    ensures { λ r. ⌜ r ≡ further n 1 ⌝ }
+{
+    StmtNo::new(n.number() + 1)
+}
+
 // A statement whose parts, if any, were read: m stands before it, and `end` and `after` are past it.
 fn noted(rows: &mut [u64], n: StmtNo, head: Head, m: Marks, end: StmtNo, after: Marks) -> StmtRead
     requires { ⌜ (ofStmt n < length (now rows)) × (ofStmt end < 4096) ⌝ }
@@ -434,30 +437,30 @@ fn read_stmt(s: &[u8], rows: &mut [u64], left: usize, e: Env, n: StmtNo, m: Mark
     ensures { λ r. ⌜ DidStmt n (m .halts) (readStmt left (now (s .entry)) (around e) n m) r (now (rows .entry)) (now (rows .exit)) ⌝ }
 {
     let at = m.at;
-    let i = n.number();
     if left == 0 {
         return StmtRead::Refused(Fault {
             refusal: Refusal::Count,
             place: at,
         });
     }
-    if 256 <= i {
+    if limits::statements_full(n) {
         return StmtRead::Refused(Fault {
             refusal: Refusal::Count,
             place: at,
         });
     }
+    let next = first_part(n);
     match read_head(s, e, m) {
         HeadRead::Refused(f) => StmtRead::Refused(f),
         HeadRead::Read(head, m1) => match head {
-            Head::Zero(_) => noted(rows, n, head, m, StmtNo::new(i + 1), m1),
+            Head::Zero(_) => noted(rows, n, head, m, next, m1),
             Head::One(u) => {
-                match read_stmt(s, rows, left - 1, inner(e, u), StmtNo::new(i + 1), m1) {
+                match read_stmt(s, rows, left - 1, inner(e, u), next, m1) {
                     StmtRead::Refused(f) => StmtRead::Refused(f),
                     StmtRead::Next(end, m2) => noted(rows, n, Head::One(u), m, end, m2),
                 }
             }
-            Head::Two(_) => match read_stmt(s, rows, left - 1, e, StmtNo::new(i + 1), m1) {
+            Head::Two(_) => match read_stmt(s, rows, left - 1, e, next, m1) {
                 StmtRead::Refused(f) => StmtRead::Refused(f),
                 StmtRead::Next(middle, m2) => match read_stmt(s, rows, left - 1, e, middle, m2) {
                     StmtRead::Refused(f) => StmtRead::Refused(f),
@@ -521,13 +524,7 @@ pub fn read_sheet(s: &[u8], rows: &mut [u64]) -> SheetRead
     let NumberRead::Value(o, past_outputs) = b else {
         return SheetRead::Refused(number::fault_of(b));
     };
-    if 63 < i {
-        return SheetRead::Refused(Fault {
-            refusal: Refusal::Count,
-            place: second,
-        });
-    }
-    if 63 - i < o {
+    if limits::header_full(i, o) {
         return SheetRead::Refused(Fault {
             refusal: Refusal::Count,
             place: second,

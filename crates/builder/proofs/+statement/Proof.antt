@@ -20,7 +20,7 @@ use Rattle.builder.proofs.close_two.Reads as close-two-reads
 use Rattle.sets.proofs.given.Reads as given-reads
 use Rattle.builder.proofs.go_of.Reads as go-of-reads
 use Rattle.builder.proofs.leaf_cells.Reads as leaf-cells-reads
-use Rattle.builder.proofs.next.Reads as next-reads
+use Rattle.sheet.proofs.first_part.Reads as first-part-reads
 use Rattle.builder.proofs.open_one.Reads as open-one-reads
 use Rattle.builder.proofs.open_two.Reads as open-two-reads
 use Rattle.sheet.proofs.row_at.Reads as row-at-reads
@@ -41,8 +41,8 @@ abbrev calls : ℕ → statement-lts.Claims
 calls t = (
   row-at-reads.Asked,
   row-at-reads.Learnt,
-  next-reads.Asked,
-  next-reads.Learnt,
+  first-part-reads.Asked,
+  first-part-reads.Learnt,
   leaf-cells-reads.Asked,
   leaf-cells-reads.Learnt,
   open-one-reads.Asked,
@@ -64,8 +64,8 @@ calls t = (
 statement-row-at-requires : (t : ℕ) → statement-lts.Need-row-at-requires (calls t) (statement-at t) statement′.Post
 statement-row-at-requires t c κs = ready-within (c .before .before .before .before .pre .1)
 
-statement-next-requires : (t : ℕ) → statement-lts.Need-next-requires (calls t) (statement-at t) statement′.Post
-statement-next-requires t c κs = ready-number (c .before .before .before .before .before .pre .1)
+statement-first-part-requires : (t : ℕ) → statement-lts.Need-first-part-requires (calls t) (statement-at t) statement′.Post
+statement-first-part-requires t c κs = ready-number (c .before .before .before .before .before .pre .1)
 
 statement-enum-known-h : (t : ℕ) → statement-lts.Need-enum-known-h (calls t) (statement-at t) statement′.Post
 statement-enum-known-h t c = search needs
@@ -94,26 +94,26 @@ statement-statement-requires : (t : ℕ) → statement-lts.Need-statement-requir
 statement-statement-requires t c κs =
     let at-open-one = c .before .before .before .before in
     let at-h2 = at-open-one .before .before .before in
-    let at-next = at-h2 .before .before in
-    let at-row-at = at-next .before in
+    let at-first = at-h2 .before .before in
+    let at-row-at = at-first .before in
     let at-start = at-row-at .before .before .before .before .before in
     let a = at-start .args in
     let ready = at-start .pre .1 in
     let part = ready-one ready (says (at-row-at .row-at .ensures) (at-h2 .h2 .given .1)) (a .g) (a .r) (a .kill) (at-open-one .open-one .ensures) in
-    rw (at-next .next .ensures) (omega (arith, ready-within ready, at-start .pre .0), part)
+    rw (at-first .first-part .ensures) (omega (arith, ready-within ready, at-start .pre .0), part)
 
 statement-close-one-requires : (t : ℕ) → statement-lts.Need-close-one-requires (calls t) (statement-at t) statement′.Post
 statement-close-one-requires t c κs =
     let at-statement = c .before .before .before .before .before in
     let at-open-one = at-statement .before .before .before .before .before in
     let at-h2 = at-open-one .before .before .before in
-    let at-next = at-h2 .before .before in
-    let at-row-at = at-next .before in
+    let at-first = at-h2 .before .before in
+    let at-row-at = at-first .before in
     let at-start = at-row-at .before .before .before .before .before in
     let a = at-start .args in
     let ready = at-start .pre .1 in
     let e = says (at-row-at .row-at .ensures) (at-h2 .h2 .given .1) in
-    let did = rw (at-next .next .ensures) at (at-statement .statement .ensures) in
+    let did = rw (at-first .first-part .ensures) at (at-statement .statement .ensures) in
     (ready-close-one ready e (a .g) (a .r) (a .kill) (at-open-one .open-one .ensures) did, ready-unary ready e)
 
 statement-enum-known-h-3 : (t : ℕ) → statement-lts.Need-enum-known-h-3 (calls t) (statement-at t) statement′.Post
@@ -131,21 +131,21 @@ statement-statement-requires-2 : (t : ℕ) → statement-lts.Need-statement-requ
 statement-statement-requires-2 t c κs =
     let at-open-two = c .before .before .before .before in
     let at-h3 = at-open-two .before .before .before in
-    let at-next = at-h3 .before .before in
-    let at-row-at = at-next .before in
+    let at-first = at-h3 .before .before in
+    let at-row-at = at-first .before in
     let at-start = at-row-at .before .before .before .before .before in
     let a = at-start .args in
     let ready = at-start .pre .1 in
     let part = ready-left ready (says (at-row-at .row-at .ensures) (at-h3 .h3 .given .1)) (a .g) (a .r) (a .kill) (at-open-two .open-two .ensures) in
-    rw (at-next .next .ensures) (omega (arith, ready-within ready, at-start .pre .0), part)
+    rw (at-first .first-part .ensures) (omega (arith, ready-within ready, at-start .pre .0), part)
 
 statement-row-at-requires-2 : (t : ℕ) → statement-lts.Need-row-at-requires-2 (calls t) (statement-at t) statement′.Post
 statement-row-at-requires-2 t c κs =
     let at-h3 = c .before .before .before .before .before .before .before .before .before .before .before .before .before in
-    let at-next = at-h3 .before .before in
-    let at-row-at = at-next .before in
+    let at-first = at-h3 .before .before in
+    let at-row-at = at-first .before in
     let at-start = at-row-at .before .before .before .before .before in
-    rw (at-next .next .ensures) (ready-first (at-start .pre .1) (says (at-row-at .row-at .ensures) (at-h3 .h3 .given .1)))
+    rw (at-first .first-part .ensures) (ready-first (at-start .pre .1) (says (at-row-at .row-at .ensures) (at-h3 .h3 .given .1)))
 
 statement-go-of-requires : (t : ℕ) → statement-lts.Need-go-of-requires (calls t) (statement-at t) statement′.Post
 statement-go-of-requires t c κs = search needs
@@ -156,14 +156,14 @@ statement-statement-requires-3 t c κs =
     let at-statement2 = at-row-at2 .before .before .before .before .before .before in
     let at-open-two = at-statement2 .before .before .before .before .before in
     let at-h3 = at-open-two .before .before .before in
-    let at-next = at-h3 .before .before in
-    let at-row-at = at-next .before in
+    let at-first = at-h3 .before .before in
+    let at-row-at = at-first .before in
     let at-start = at-row-at .before .before .before .before .before in
     let a = at-start .args in
     let ready = at-start .pre .1 in
     let e = says (at-row-at .row-at .ensures) (at-h3 .h3 .given .1) in
-    let first = rw (at-next .next .ensures) at (at-statement2 .statement2 .ensures) in
-    let place = ap (λ (w : Row). w .end) (at-row-at2 .row-at2 .ensures ∙ ap (rowAt (a .rows .now)) (at-next .next .ensures)) in
+    let first = rw (at-first .first-part .ensures) at (at-statement2 .statement2 .ensures) in
+    let place = ap (λ (w : Row). w .end) (at-row-at2 .row-at2 .ensures ∙ ap (rowAt (a .rows .now)) (at-first .first-part .ensures)) in
     let part = ready-right ready e (a .g) (a .r) (a .kill) (at-open-two .open-two .ensures) first place
     (omega (arith, at-statement2 .statement2 .kept .1 .1 .1 .0, ready .lists)) in
     let on = further-on ready e (a .g) (a .r) (a .kill) (at-open-two .open-two .ensures) first place in
@@ -184,14 +184,14 @@ statement-close-two-requires t c κs =
     let at-statement2 = at-row-at2 .before .before .before .before .before .before in
     let at-open-two = at-statement2 .before .before .before .before .before in
     let at-h3 = at-open-two .before .before .before in
-    let at-next = at-h3 .before .before in
-    let at-row-at = at-next .before in
+    let at-first = at-h3 .before .before in
+    let at-row-at = at-first .before in
     let at-start = at-row-at .before .before .before .before .before in
     let a = at-start .args in
     let ready = at-start .pre .1 in
     let e = says (at-row-at .row-at .ensures) (at-h3 .h3 .given .1) in
-    let first = rw (at-next .next .ensures) at (at-statement2 .statement2 .ensures) in
-    let place = ap (λ (w : Row). w .end) (at-row-at2 .row-at2 .ensures ∙ ap (rowAt (a .rows .now)) (at-next .next .ensures)) in
+    let first = rw (at-first .first-part .ensures) at (at-statement2 .statement2 .ensures) in
+    let place = ap (λ (w : Row). w .end) (at-row-at2 .row-at2 .ensures ∙ ap (rowAt (a .rows .now)) (at-first .first-part .ensures)) in
     ready-close-two ready e (a .g) (a .r) (a .kill) (at-open-two .open-two .ensures) first place (at-statement3 .statement3 .ensures)
 
 statement-same-length : (t : ℕ) → statement-lts.Need-same-length (calls t) (statement-at t) statement′.Post
@@ -219,9 +219,9 @@ statement-returns-2 t c =
     let at-statement = at-close-one .before .before .before .before .before .before in
     let at-open-one = at-statement .before .before .before .before .before in
     let at-h2 = at-open-one .before .before .before in
-    let at-next = at-h2 .before .before in
-    let at-row-at = at-next .before in
-    let did = rw (at-next .next .ensures) at (at-statement .statement .ensures) in
+    let at-first = at-h2 .before .before in
+    let at-row-at = at-first .before in
+    let did = rw (at-first .first-part .ensures) at (at-statement .statement .ensures) in
     one-does (says (at-row-at .row-at .ensures) (at-h2 .h2 .given .1)) (at-open-one .open-one .ensures) did (at-close-one .close-one .ensures)
 
 statement-same-length-5 : (t : ℕ) → statement-lts.Need-same-length-5 (calls t) (statement-at t) statement′.Post
@@ -248,12 +248,12 @@ statement-returns-3 t c =
     let at-statement2 = at-row-at2 .before .before .before .before .before .before in
     let at-open-two = at-statement2 .before .before .before .before .before in
     let at-h3 = at-open-two .before .before .before in
-    let at-next = at-h3 .before .before in
-    let at-row-at = at-next .before in
+    let at-first = at-h3 .before .before in
+    let at-row-at = at-first .before in
     let at-start = at-row-at .before .before .before .before .before in
     let a = at-start .args in
-    let first = rw (at-next .next .ensures) at (at-statement2 .statement2 .ensures) in
-    let place = ap (λ (w : Row). w .end) (at-row-at2 .row-at2 .ensures ∙ ap (rowAt (a .rows .now)) (at-next .next .ensures)) in
+    let first = rw (at-first .first-part .ensures) at (at-statement2 .statement2 .ensures) in
+    let place = ap (λ (w : Row). w .end) (at-row-at2 .row-at2 .ensures ∙ ap (rowAt (a .rows .now)) (at-first .first-part .ensures)) in
     two-does (at-given .given .result) (says (at-row-at .row-at .ensures) (at-h3 .h3 .given .1)) (at-open-two .open-two .ensures) first place
     (at-go-of .go-of .ensures) (at-statement3 .statement3 .ensures) (at-given .given .ensures)
     (at-close-two .close-two .ensures)
@@ -263,7 +263,7 @@ pub +statement-spec : {M : Type 1} → statement M
     (statement-at t)
     statement′.Post
     (statement-row-at-requires t)
-    (statement-next-requires t)
+    (statement-first-part-requires t)
     (statement-enum-known-h t)
     (statement-leaf-cells-requires t)
     (statement-enum-known-h-2 t)

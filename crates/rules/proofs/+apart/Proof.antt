@@ -16,7 +16,7 @@ use borrow.Fn.PlainCycle.{Measures, is, falls, and}
 use Rattle.rules.proofs.apart.Reads as apart
 use Rattle.rules.proofs.apart.Kinds as apart-kinds
 use Rattle.rules.proofs.+apart.Lts-apart as apart-lts
-use Rattle.rules.proofs.first_part.Reads as first-part-reads
+use Rattle.sheet.proofs.first_part.Reads as first-part-reads
 use Rattle.rules.proofs.inside.Reads as inside-reads
 use Rattle.rules.proofs.second_part.Reads as second-part-reads
 use Rattle.rules.proofs.sides_fit.Reads as sides-fit-reads

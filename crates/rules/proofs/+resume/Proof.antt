@@ -21,7 +21,7 @@ use Rattle.rules.proofs.resume.Kinds as resume-kinds
 use Rattle.rules.proofs.+resume.Lts-resume as resume-lts
 use Rattle.rules.proofs.beside.Reads as beside-reads
 use Rattle.rules.proofs.cut_off.Reads as cut-off-reads
-use Rattle.rules.proofs.first_part.Reads as first-part-reads
+use Rattle.sheet.proofs.first_part.Reads as first-part-reads
 use Rattle.rules.proofs.followed.Reads as followed-reads
 use Rattle.rules.proofs.goes_on.Reads as goes-on-reads
 use Rattle.rules.proofs.idle.Reads as idle-reads

@@ -19,7 +19,7 @@ use Rattle.bits.proofs.member.Reads as member-reads
 use Rattle.number.proofs.SignalNo.number.Reads as number-reads
 use Rattle.rules.proofs.passed.Reads as passed-reads
 use Rattle.rules.proofs.beside.Reads as beside-reads
-use Rattle.rules.proofs.first_part.Reads as first-part-reads
+use Rattle.sheet.proofs.first_part.Reads as first-part-reads
 use Rattle.rules.proofs.followed.Reads as followed-reads
 use Rattle.rules.proofs.leaf.Reads as leaf-reads
 use Rattle.rules.proofs.second_part.Reads as second-part-reads

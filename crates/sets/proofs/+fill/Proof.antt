@@ -9,7 +9,7 @@ use Rattle.number.specs.Counts.{ofHalt, ofStmt}
 use Rattle.sheet.specs.Read.{further}
 use Rattle.sheet.specs.Rows.{rowAt}
 use Rattle.sets.proofs.Columns.{both-small}
-use Rattle.sets.proofs.Standing.{next-is, head-is, end-is, stands-within, stands-next, low-leaf, stands-one, stands-two, second-later}
+use Rattle.sets.proofs.Standing.{head-is, end-is, stands-within, stands-number, low-leaf, stands-one, stands-two, second-later}
 use Rattle.sets.proofs.Filling.{leaf-means, one-means, two-means, leaf-filled, one-filled, two-filled}
 use Prim.Native.Nat.{ℕ, _<_}
 use borrow.Fn.Kinds.{In}
@@ -17,9 +17,8 @@ use borrow.Fn.PlainCycle.{Measures, is, falls, and}
 use Rattle.sets.proofs.fill.Reads as fill
 use Rattle.sets.proofs.fill.Kinds as fill-kinds
 use Rattle.sets.proofs.+fill.Lts-fill as fill-lts
-use Rattle.number.proofs.HaltNo.number.Reads as HaltNo-number-reads
-use Rattle.number.proofs.StmtNo.new.Reads as new-reads
-use Rattle.number.proofs.StmtNo.number.Reads as StmtNo-number-reads
+use Rattle.number.proofs.HaltNo.number.Reads as number-reads
+use Rattle.sheet.proofs.first_part.Reads as first-part-reads
 use Rattle.sets.proofs.entered.Reads as entered-reads
 use Rattle.sets.proofs.leaf_sets.Reads as leaf-sets-reads
 use Rattle.sets.proofs.one_sets.Reads as one-sets-reads
@@ -41,16 +40,14 @@ abbrev calls : ℕ → fill-lts.Claims
 calls t = (
   row-at-reads.Asked,
   row-at-reads.Learnt,
-  StmtNo-number-reads.Asked,
-  StmtNo-number-reads.Learnt,
+  first-part-reads.Asked,
+  first-part-reads.Learnt,
   leaf-sets-reads.Asked,
   leaf-sets-reads.Learnt,
   entered-reads.Asked,
   entered-reads.Learnt,
-  HaltNo-number-reads.Asked,
-  HaltNo-number-reads.Learnt,
-  new-reads.Asked,
-  new-reads.Learnt,
+  number-reads.Asked,
+  number-reads.Learnt,
   fill-below t,
   fill.Post,
   one-sets-reads.Asked,
@@ -62,14 +59,8 @@ calls t = (
 fill-row-at-requires : (t : ℕ) → fill-lts.Need-row-at-requires (calls t) (fill-at t) fill.Post
 fill-row-at-requires t c κs = stands-within (c .before .before .pre .1 .0)
 
-fill-number-requires : (t : ℕ) → fill-lts.Need-number-requires (calls t) (fill-at t) fill.Post
-fill-number-requires t c κs = search needs
-
-fill-add-next : (t : ℕ) → fill-lts.Need-add-next (calls t) (fill-at t) fill.Post
-fill-add-next t c =
-    let entry = c .before .before .before .before in
-    let the-number = c .number in
-    let few = stands-next (entry .pre .1 .0) in rw (the-number .ensures) (omega arith)
+fill-first-part-requires : (t : ℕ) → fill-lts.Need-first-part-requires (calls t) (fill-at t) fill.Post
+fill-first-part-requires t c κs = stands-number (c .before .before .before .pre .1 .0)
 
 fill-enum-known-head : (t : ℕ) → fill-lts.Need-enum-known-head (calls t) (fill-at t) fill.Post
 fill-enum-known-head t c = search needs
@@ -95,24 +86,20 @@ fill-entered-requires t c κs =
 fill-enum-known-head-2 : (t : ℕ) → fill-lts.Need-enum-known-head-2 (calls t) (fill-at t) fill.Post
 fill-enum-known-head-2 t c = search needs
 
+fill-number-requires : (t : ℕ) → fill-lts.Need-number-requires (calls t) (fill-at t) fill.Post
+fill-number-requires t c κs = search needs
+
 fill-number-requires-2 : (t : ℕ) → fill-lts.Need-number-requires-2 (calls t) (fill-at t) fill.Post
 fill-number-requires-2 t c κs = search needs
 
-fill-number-requires-3 : (t : ℕ) → fill-lts.Need-number-requires-3 (calls t) (fill-at t) fill.Post
-fill-number-requires-3 t c κs = search needs
-
-fill-new-requires : (t : ℕ) → fill-lts.Need-new-requires (calls t) (fill-at t) fill.Post
-fill-new-requires t c κs = search needs
-
 fill-fill-requires : (t : ℕ) → fill-lts.Need-fill-requires (calls t) (fill-at t) fill.Post
 fill-fill-requires t c κs =
-    let entry = c .before .before .before .before .before .before .before .before .before .before .before in
-    let the-new = c .new in
-    let the-number = c .before .before .before .before .before .before .before .number in
-    let the-row-at = c .before .before .before .before .before .before .before .before .row-at in
-    let the-head2 = c .before .before .before .before .before .head2 in
+    let entry = c .before .before .before .before .before .before .before .before .before .before in
+    let the-first = c .before .before .before .before .before .before .first-part in
+    let the-row-at = c .before .before .before .before .before .before .before .row-at in
+    let the-head2 = c .before .before .before .before .head2 in
     let s = entry .pre .1 .0 in
-    let next : the-new .result ≡ further (entry .args .n) 1 = next-is (the-new .ensures) (the-number .ensures) in
+    let next : the-first .result ≡ further (entry .args .n) 1 = the-first .ensures in
     let head = head-is (the-row-at .ensures) (the-head2 .given .1) in
     (rw next (omega (arith, stands-within s, entry .pre .0)), (rw next (stands-one s head .part), entry .pre .1 .1))
 
@@ -121,19 +108,18 @@ fill-one-sets-requires t c κs = search needs
 
 fill-entered-requires-2 : (t : ℕ) → fill-lts.Need-entered-requires-2 (calls t) (fill-at t) fill.Post
 fill-entered-requires-2 t c κs =
-    let entry = c .before .before .before .before .before .before .before .before .before .before .before .before .before .before .before .before in
-    let the-new = c .before .before .before .before .before .new in
-    let the-number = c .before .before .before .before .before .before .before .before .before .before .before .before .number in
-    let the-row-at = c .before .before .before .before .before .before .before .before .before .before .before .before .before .row-at in
-    let the-head2 = c .before .before .before .before .before .before .before .before .before .before .head2 in
-    let the-number2 = c .before .before .before .before .before .before .before .before .number2 in
-    let the-number3 = c .before .before .before .before .before .before .before .number3 in
+    let entry = c .before .before .before .before .before .before .before .before .before .before .before .before .before .before .before in
+    let the-first = c .before .before .before .before .before .before .before .before .before .before .before .first-part in
+    let the-row-at = c .before .before .before .before .before .before .before .before .before .before .before .before .row-at in
+    let the-head2 = c .before .before .before .before .before .before .before .before .before .head2 in
+    let the-number = c .before .before .before .before .before .before .before .number in
+    let the-number2 = c .before .before .before .before .before .before .number2 in
     let the-fill = c .before .before .before .before .fill in
     let the-one-sets = c .one-sets in
     let s = entry .pre .1 .0 in
-    let next : the-new .result ≡ further (entry .args .n) 1 = next-is (the-new .ensures) (the-number .ensures) in
+    let next : the-first .result ≡ further (entry .args .n) 1 = the-first .ensures in
     let head = head-is (the-row-at .ensures) (the-head2 .given .1) in
-    let halts = (λ i. ltb (the-number2 .ensures i) (the-number3 .ensures i)) ∙ (λ i. ltb (ofHalt (the-row-at .ensures i .first)) (ofHalt (the-row-at .ensures i .past))) in
+    let halts = (λ i. ltb (the-number .ensures i) (the-number2 .ensures i)) ∙ (λ i. ltb (ofHalt (the-row-at .ensures i .first)) (ofHalt (the-row-at .ensures i .past))) in
     let went = rw next at (the-fill .ensures) in
     let own = one-means s head halts went (the-one-sets .ensures) in
     let small = both-small (the-one-sets .result) (s .stmt) (s .low) own in
@@ -142,48 +128,39 @@ fill-entered-requires-2 t c κs =
 fill-enum-known-head-3 : (t : ℕ) → fill-lts.Need-enum-known-head-3 (calls t) (fill-at t) fill.Post
 fill-enum-known-head-3 t c = search needs
 
-fill-new-requires-2 : (t : ℕ) → fill-lts.Need-new-requires-2 (calls t) (fill-at t) fill.Post
-fill-new-requires-2 t c κs = search needs
-
 fill-fill-requires-2 : (t : ℕ) → fill-lts.Need-fill-requires-2 (calls t) (fill-at t) fill.Post
 fill-fill-requires-2 t c κs =
-    let entry = c .before .before .before .before .before .before .before .before .before in
-    let the-new2 = c .new2 in
-    let the-number = c .before .before .before .before .before .number in
-    let the-row-at = c .before .before .before .before .before .before .row-at in
-    let the-head3 = c .before .before .before .head3 in
+    let entry = c .before .before .before .before .before .before .before .before in
+    let the-first = c .before .before .before .before .first-part in
+    let the-row-at = c .before .before .before .before .before .row-at in
+    let the-head3 = c .before .before .head3 in
     let s = entry .pre .1 .0 in
-    let next : the-new2 .result ≡ further (entry .args .n) 1 = next-is (the-new2 .ensures) (the-number .ensures) in
+    let next : the-first .result ≡ further (entry .args .n) 1 = the-first .ensures in
     let head = head-is (the-row-at .ensures) (the-head3 .given .1) in
     (rw next (omega (arith, stands-within s, entry .pre .0)), (rw next (stands-two s head .left), entry .pre .1 .1))
 
-fill-new-requires-3 : (t : ℕ) → fill-lts.Need-new-requires-3 (calls t) (fill-at t) fill.Post
-fill-new-requires-3 t c κs = search needs
-
 fill-row-at-requires-2 : (t : ℕ) → fill-lts.Need-row-at-requires-2 (calls t) (fill-at t) fill.Post
 fill-row-at-requires-2 t c κs =
-    let entry = c .before .before .before .before .before .before .before .before .before .before .before .before .before in
-    let the-row-at = c .before .before .before .before .before .before .before .before .before .before .row-at in
-    let the-head3 = c .before .before .before .before .before .before .before .head3 in
-    let the-new3 = c .new3 in
-    let the-number = c .before .before .before .before .before .before .before .before .before .number in
+    let entry = c .before .before .before .before .before .before .before .before .before .before .before in
+    let the-row-at = c .before .before .before .before .before .before .before .before .row-at in
+    let the-head3 = c .before .before .before .before .before .head3 in
+    let the-first = c .before .before .before .before .before .before .before .first-part in
     let s = entry .pre .1 .0 in
     let head = head-is (the-row-at .ensures) (the-head3 .given .1) in
-    let again : the-new3 .result ≡ further (entry .args .n) 1 = next-is (the-new3 .ensures) (the-number .ensures) in
+    let again : the-first .result ≡ further (entry .args .n) 1 = the-first .ensures in
     rw again (stands-within (stands-two s head .left))
 
 fill-fill-requires-3 : (t : ℕ) → fill-lts.Need-fill-requires-3 (calls t) (fill-at t) fill.Post
 fill-fill-requires-3 t c κs =
-    let entry = c .before .before .before .before .before .before .before .before .before .before .before .before .before .before .before in
-    let the-row-at = c .before .before .before .before .before .before .before .before .before .before .before .before .row-at in
-    let the-head3 = c .before .before .before .before .before .before .before .before .before .head3 in
-    let the-new3 = c .before .before .new3 in
-    let the-number = c .before .before .before .before .before .before .before .before .before .before .before .number in
+    let entry = c .before .before .before .before .before .before .before .before .before .before .before .before .before in
+    let the-row-at = c .before .before .before .before .before .before .before .before .before .before .row-at in
+    let the-head3 = c .before .before .before .before .before .before .before .head3 in
+    let the-first = c .before .before .before .before .before .before .before .before .before .first-part in
     let the-row-at2 = c .before .row-at2 in
-    let the-fill2 = c .before .before .before .before .before .fill2 in
+    let the-fill2 = c .before .before .before .before .fill2 in
     let s = entry .pre .1 .0 in
     let head = head-is (the-row-at .ensures) (the-head3 .given .1) in
-    let again : the-new3 .result ≡ further (entry .args .n) 1 = next-is (the-new3 .ensures) (the-number .ensures) in
+    let again : the-first .result ≡ further (entry .args .n) 1 = the-first .ensures in
     let end : the-row-at2 .result .end ≡ rowAt (entry .args .rows .now) (further (entry .args .n) 1) .end =
     end-is (entry .args .rows .now) (the-row-at2 .ensures) again in
     let later = second-later s head in
@@ -194,20 +171,18 @@ fill-two-sets-requires t c κs = search needs
 
 fill-entered-requires-3 : (t : ℕ) → fill-lts.Need-entered-requires-3 (calls t) (fill-at t) fill.Post
 fill-entered-requires-3 t c κs =
-    let entry = c .before .before .before .before .before .before .before .before .before .before .before .before .before .before .before .before .before .before .before .before in
-    let the-new2 = c .before .before .before .before .before .before .before .before .before .before .before .new2 in
-    let the-number = c .before .before .before .before .before .before .before .before .before .before .before .before .before .before .before .before .number in
-    let the-row-at = c .before .before .before .before .before .before .before .before .before .before .before .before .before .before .before .before .before .row-at in
-    let the-head3 = c .before .before .before .before .before .before .before .before .before .before .before .before .before .before .head3 in
-    let the-new3 = c .before .before .before .before .before .before .before .new3 in
+    let entry = c .before .before .before .before .before .before .before .before .before .before .before .before .before .before .before .before .before .before in
+    let the-first = c .before .before .before .before .before .before .before .before .before .before .before .before .before .before .first-part in
+    let the-row-at = c .before .before .before .before .before .before .before .before .before .before .before .before .before .before .before .row-at in
+    let the-head3 = c .before .before .before .before .before .before .before .before .before .before .before .before .head3 in
     let the-row-at2 = c .before .before .before .before .before .before .row-at2 in
-    let the-fill2 = c .before .before .before .before .before .before .before .before .before .before .fill2 in
+    let the-fill2 = c .before .before .before .before .before .before .before .before .before .fill2 in
     let the-fill3 = c .before .before .before .before .fill3 in
     let the-two-sets = c .two-sets in
     let s = entry .pre .1 .0 in
-    let next : the-new2 .result ≡ further (entry .args .n) 1 = next-is (the-new2 .ensures) (the-number .ensures) in
+    let next : the-first .result ≡ further (entry .args .n) 1 = the-first .ensures in
     let head = head-is (the-row-at .ensures) (the-head3 .given .1) in
-    let again : the-new3 .result ≡ further (entry .args .n) 1 = next-is (the-new3 .ensures) (the-number .ensures) in
+    let again : the-first .result ≡ further (entry .args .n) 1 = the-first .ensures in
     let end : the-row-at2 .result .end ≡ rowAt (entry .args .rows .now) (further (entry .args .n) 1) .end =
     end-is (entry .args .rows .now) (the-row-at2 .ensures) again in
     let first = rw next at (the-fill2 .ensures) in
@@ -232,19 +207,18 @@ fill-same-length-2 t c = search needs
 
 fill-returns-2 : (t : ℕ) → fill-lts.Need-returns-2 (calls t) (fill-at t) fill.Post
 fill-returns-2 t c =
-    let the-new = c .before .before .before .before .before .before .before .before .new in
-    let entry = c .before .before .before .before .before .before .before .before .before .before .before .before .before .before .before .before .before .before .before in
-    let the-number = c .before .before .before .before .before .before .before .before .before .before .before .before .before .before .before .number in
-    let the-row-at = c .before .before .before .before .before .before .before .before .before .before .before .before .before .before .before .before .row-at in
-    let the-head2 = c .before .before .before .before .before .before .before .before .before .before .before .before .before .head2 in
-    let the-number2 = c .before .before .before .before .before .before .before .before .before .before .before .number2 in
-    let the-number3 = c .before .before .before .before .before .before .before .before .before .before .number3 in
+    let entry = c .before .before .before .before .before .before .before .before .before .before .before .before .before .before .before .before .before .before in
+    let the-first = c .before .before .before .before .before .before .before .before .before .before .before .before .before .before .first-part in
+    let the-row-at = c .before .before .before .before .before .before .before .before .before .before .before .before .before .before .before .row-at in
+    let the-head2 = c .before .before .before .before .before .before .before .before .before .before .before .before .head2 in
+    let the-number = c .before .before .before .before .before .before .before .before .before .before .number in
+    let the-number2 = c .before .before .before .before .before .before .before .before .before .number2 in
     let the-fill = c .before .before .before .before .before .before .before .fill in
     let the-one-sets = c .before .before .before .one-sets in
     let the-entered2 = c .before .before .entered2 in
-    λ s. let next : the-new .result ≡ further (entry .args .n) 1 = next-is (the-new .ensures) (the-number .ensures) in
+    λ s. let next : the-first .result ≡ further (entry .args .n) 1 = the-first .ensures in
     let head = head-is (the-row-at .ensures) (the-head2 .given .1) in
-    let halts = (λ i. ltb (the-number2 .ensures i) (the-number3 .ensures i)) ∙ (λ i. ltb (ofHalt (the-row-at .ensures i .first)) (ofHalt (the-row-at .ensures i .past))) in
+    let halts = (λ i. ltb (the-number .ensures i) (the-number2 .ensures i)) ∙ (λ i. ltb (ofHalt (the-row-at .ensures i .first)) (ofHalt (the-row-at .ensures i .past))) in
     let went = rw next at (the-fill .ensures) in
     let own = one-means s head halts went (the-one-sets .ensures) in
     one-filled s head went own (the-entered2 .ensures)
@@ -254,20 +228,18 @@ fill-same-length-3 t c = search needs
 
 fill-returns-3 : (t : ℕ) → fill-lts.Need-returns-3 (calls t) (fill-at t) fill.Post
 fill-returns-3 t c =
-    let the-new2 = c .before .before .before .before .before .before .before .before .before .before .before .before .before .before .new2 in
-    let entry = c .before .before .before .before .before .before .before .before .before .before .before .before .before .before .before .before .before .before .before .before .before .before .before in
-    let the-number = c .before .before .before .before .before .before .before .before .before .before .before .before .before .before .before .before .before .before .before .number in
-    let the-row-at = c .before .before .before .before .before .before .before .before .before .before .before .before .before .before .before .before .before .before .before .before .row-at in
-    let the-head3 = c .before .before .before .before .before .before .before .before .before .before .before .before .before .before .before .before .before .head3 in
-    let the-new3 = c .before .before .before .before .before .before .before .before .before .before .new3 in
+    let entry = c .before .before .before .before .before .before .before .before .before .before .before .before .before .before .before .before .before .before .before .before .before in
+    let the-first = c .before .before .before .before .before .before .before .before .before .before .before .before .before .before .before .before .before .first-part in
+    let the-row-at = c .before .before .before .before .before .before .before .before .before .before .before .before .before .before .before .before .before .before .row-at in
+    let the-head3 = c .before .before .before .before .before .before .before .before .before .before .before .before .before .before .before .head3 in
     let the-row-at2 = c .before .before .before .before .before .before .before .before .before .row-at2 in
-    let the-fill2 = c .before .before .before .before .before .before .before .before .before .before .before .before .before .fill2 in
+    let the-fill2 = c .before .before .before .before .before .before .before .before .before .before .before .before .fill2 in
     let the-fill3 = c .before .before .before .before .before .before .before .fill3 in
     let the-two-sets = c .before .before .before .two-sets in
     let the-entered3 = c .before .before .entered3 in
-    λ s. let next : the-new2 .result ≡ further (entry .args .n) 1 = next-is (the-new2 .ensures) (the-number .ensures) in
+    λ s. let next : the-first .result ≡ further (entry .args .n) 1 = the-first .ensures in
     let head = head-is (the-row-at .ensures) (the-head3 .given .1) in
-    let again : the-new3 .result ≡ further (entry .args .n) 1 = next-is (the-new3 .ensures) (the-number .ensures) in
+    let again : the-first .result ≡ further (entry .args .n) 1 = the-first .ensures in
     let end : the-row-at2 .result .end ≡ rowAt (entry .args .rows .now) (further (entry .args .n) 1) .end =
     end-is (entry .args .rows .now) (the-row-at2 .ensures) again in
     let first = rw next at (the-fill2 .ensures) in
@@ -279,16 +251,14 @@ pub +fill-spec : {M : Type 1} → statement M
 +fill-spec = close μ-fill λ t. fill-lts.spec (
   row-at-reads.Asked,
   row-at-reads.Learnt,
-  StmtNo-number-reads.Asked,
-  StmtNo-number-reads.Learnt,
+  first-part-reads.Asked,
+  first-part-reads.Learnt,
   leaf-sets-reads.Asked,
   leaf-sets-reads.Learnt,
   entered-reads.Asked,
   entered-reads.Learnt,
-  HaltNo-number-reads.Asked,
-  HaltNo-number-reads.Learnt,
-  new-reads.Asked,
-  new-reads.Learnt,
+  number-reads.Asked,
+  number-reads.Learnt,
   fill-below t,
   fill.Post,
   one-sets-reads.Asked,
@@ -299,22 +269,18 @@ pub +fill-spec : {M : Type 1} → statement M
     (fill-at t)
     fill.Post
     (fill-row-at-requires t)
-    (fill-number-requires t)
-    (fill-add-next t)
+    (fill-first-part-requires t)
     (fill-enum-known-head t)
     (fill-leaf-sets-requires t)
     (fill-entered-requires t)
     (fill-enum-known-head-2 t)
+    (fill-number-requires t)
     (fill-number-requires-2 t)
-    (fill-number-requires-3 t)
-    (fill-new-requires t)
     (fill-fill-requires t)
     (fill-one-sets-requires t)
     (fill-entered-requires-2 t)
     (fill-enum-known-head-3 t)
-    (fill-new-requires-2 t)
     (fill-fill-requires-2 t)
-    (fill-new-requires-3 t)
     (fill-row-at-requires-2 t)
     (fill-fill-requires-3 t)
     (fill-two-sets-requires t)

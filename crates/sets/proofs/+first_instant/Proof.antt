@@ -7,7 +7,7 @@ use lib.ListN.{length}
 use Rattle.number.specs.Counts.{ofStmt}
 use Rattle.sheet.specs.Read.{further}
 use Rattle.sheet.specs.Rows.{rowAt}
-use Rattle.sets.proofs.Standing.{next-is, head-is, end-is, stands-within, stands-next, stands-one, stands-two, second-later}
+use Rattle.sets.proofs.Standing.{head-is, end-is, stands-within, stands-number, stands-one, stands-two, second-later}
 use Rattle.sets.proofs.Searching.{instant-none, instant-here, instant-on, instant-left, instant-right}
 use Prim.Native.Nat.{ℕ, _<_}
 use borrow.Fn.Kinds.{In}
@@ -15,8 +15,7 @@ use borrow.Fn.PlainCycle.{Measures, is, falls, and}
 use Rattle.sets.proofs.first_instant.Reads as first-instant
 use Rattle.sets.proofs.first_instant.Kinds as first-instant-kinds
 use Rattle.sets.proofs.+first_instant.Lts-first_instant as first-instant-lts
-use Rattle.number.proofs.StmtNo.new.Reads as new-reads
-use Rattle.number.proofs.StmtNo.number.Reads as number-reads
+use Rattle.sheet.proofs.first_part.Reads as first-part-reads
 use Rattle.sets.proofs.runs_on.Reads as runs-on-reads
 use Rattle.sets.proofs.sets_of.Reads as sets-of-reads
 use Rattle.sheet.proofs.row_at.Reads as row-at-reads
@@ -42,10 +41,8 @@ abbrev calls : ℕ → first-instant-lts.Claims
 calls t = (
   row-at-reads.Asked,
   row-at-reads.Learnt,
-  number-reads.Asked,
-  number-reads.Learnt,
-  new-reads.Asked,
-  new-reads.Learnt,
+  first-part-reads.Asked,
+  first-part-reads.Learnt,
   sets-of-reads.Asked,
   sets-of-reads.Learnt,
   runs-on-reads.Asked,
@@ -57,17 +54,8 @@ calls t = (
 first-instant-row-at-requires : (t : ℕ) → first-instant-lts.Need-row-at-requires (calls t) (first-instant-at t) first-instant.Post
 first-instant-row-at-requires t c κs = stands-within (c .before .before .pre .1 .0)
 
-first-instant-number-requires : (t : ℕ) → first-instant-lts.Need-number-requires (calls t) (first-instant-at t) first-instant.Post
-first-instant-number-requires t c κs = search needs
-
-first-instant-add-new : (t : ℕ) → first-instant-lts.Need-add-new (calls t) (first-instant-at t) first-instant.Post
-first-instant-add-new t c =
-    let entry = c .before .before .before .before in
-    let the-number = c .number in
-    let few = stands-next (entry .pre .1 .0) in rw (the-number .ensures) (omega arith)
-
-first-instant-new-requires : (t : ℕ) → first-instant-lts.Need-new-requires (calls t) (first-instant-at t) first-instant.Post
-first-instant-new-requires t c κs = search needs
+first-instant-first-part-requires : (t : ℕ) → first-instant-lts.Need-first-part-requires (calls t) (first-instant-at t) first-instant.Post
+first-instant-first-part-requires t c κs = stands-number (c .before .before .before .pre .1 .0)
 
 first-instant-enum-told : (t : ℕ) → first-instant-lts.Need-enum-told (calls t) (first-instant-at t) first-instant.Post
 first-instant-enum-told t c = search needs
@@ -77,13 +65,12 @@ first-instant-enum-known-head t c = search needs
 
 first-instant-sets-of-requires : (t : ℕ) → first-instant-lts.Need-sets-of-requires (calls t) (first-instant-at t) first-instant.Post
 first-instant-sets-of-requires t c κs =
-    let entry = c .before .before .before .before .before .before .before .before in
-    let the-new = c .before .before .before .new in
-    let the-number = c .before .before .before .before .number in
-    let the-row-at = c .before .before .before .before .before .row-at in
+    let entry = c .before .before .before .before .before .before .before in
+    let the-first = c .before .before .before .first-part in
+    let the-row-at = c .before .before .before .before .row-at in
     let the-head = c .before .head in
     let s = entry .pre .1 .0 in
-    let next : the-new .result ≡ further (entry .args .n) 1 = next-is (the-new .ensures) (the-number .ensures) in
+    let next : the-first .result ≡ further (entry .args .n) 1 = the-first .ensures in
     let head = head-is (the-row-at .ensures) (the-head .given .1) in
     rw next (omega (arith, stands-within (stands-one s head .part), entry .pre .1 .1))
 
@@ -92,28 +79,26 @@ first-instant-runs-on-requires t c κs = search needs
 
 first-instant-returns : (t : ℕ) → first-instant-lts.Need-returns (calls t) (first-instant-at t) first-instant.Post
 first-instant-returns t c =
-    let the-new = c .before .before .before .before .before .before .new in
-    let entry = c .before .before .before .before .before .before .before .before .before .before .before in
-    let the-number = c .before .before .before .before .before .before .before .number in
-    let the-row-at = c .before .before .before .before .before .before .before .before .row-at in
+    let entry = c .before .before .before .before .before .before .before .before .before .before in
+    let the-first = c .before .before .before .before .before .before .first-part in
+    let the-row-at = c .before .before .before .before .before .before .before .row-at in
     let the-head = c .before .before .before .before .head in
     let the-sets-of = c .before .before .sets-of in
     let the-runs-on = c .before .runs-on in
     let the-if1 = c .if1 in
     λ s kept.
-    let next : the-new .result ≡ further (entry .args .n) 1 = next-is (the-new .ensures) (the-number .ensures) in
+    let next : the-first .result ≡ further (entry .args .n) 1 = the-first .ensures in
     let head = head-is (the-row-at .ensures) (the-head .given .1) in
     instant-here (entry .args .sets .now) s kept head (rw next at (the-sets-of .ensures)) (the-runs-on .ensures) (the-if1 .taken)
 
 first-instant-first-instant-requires : (t : ℕ) → first-instant-lts.Need-first-instant-requires (calls t) (first-instant-at t) first-instant.Post
 first-instant-first-instant-requires t c κs =
-    let entry = c .before .before .before .before .before .before .before .before .before .before .before in
-    let the-new = c .before .before .before .before .before .before .new in
-    let the-number = c .before .before .before .before .before .before .before .number in
-    let the-row-at = c .before .before .before .before .before .before .before .before .row-at in
+    let entry = c .before .before .before .before .before .before .before .before .before .before in
+    let the-first = c .before .before .before .before .before .before .first-part in
+    let the-row-at = c .before .before .before .before .before .before .before .row-at in
     let the-head = c .before .before .before .before .head in
     let s = entry .pre .1 .0 in
-    let next : the-new .result ≡ further (entry .args .n) 1 = next-is (the-new .ensures) (the-number .ensures) in
+    let next : the-first .result ≡ further (entry .args .n) 1 = the-first .ensures in
     let head = head-is (the-row-at .ensures) (the-head .given .1) in
     (rw next (omega (arith, stands-within s, entry .pre .0)), (rw next (stands-one s head .part), entry .pre .1 .1))
 
@@ -122,25 +107,23 @@ first-instant-enum-told-2 t c = search needs
 
 first-instant-row-at-requires-2 : (t : ℕ) → first-instant-lts.Need-row-at-requires-2 (calls t) (first-instant-at t) first-instant.Post
 first-instant-row-at-requires-2 t c κs =
-    let entry = c .before .before .before .before .before .before .before in
-    let the-new = c .before .before .new in
-    let the-number = c .before .before .before .number in
-    let the-row-at = c .before .before .before .before .row-at in
+    let entry = c .before .before .before .before .before .before in
+    let the-first = c .before .before .first-part in
+    let the-row-at = c .before .before .before .row-at in
     let the-enum-told2 = c .enum-told2 in
     let s = entry .pre .1 .0 in
-    let next : the-new .result ≡ further (entry .args .n) 1 = next-is (the-new .ensures) (the-number .ensures) in
+    let next : the-first .result ≡ further (entry .args .n) 1 = the-first .ensures in
     let head = head-is (the-row-at .ensures) (the-enum-told2 .given .1) in
     rw next (stands-within (stands-two s head .left))
 
 first-instant-first-instant-requires-2 : (t : ℕ) → first-instant-lts.Need-first-instant-requires-2 (calls t) (first-instant-at t) first-instant.Post
 first-instant-first-instant-requires-2 t c κs =
-    let entry = c .before .before .before .before .before .before .before .before in
-    let the-new = c .before .before .before .new in
-    let the-number = c .before .before .before .before .number in
-    let the-row-at = c .before .before .before .before .before .row-at in
+    let entry = c .before .before .before .before .before .before .before in
+    let the-first = c .before .before .before .first-part in
+    let the-row-at = c .before .before .before .before .row-at in
     let the-enum-told2 = c .before .enum-told2 in
     let s = entry .pre .1 .0 in
-    let next : the-new .result ≡ further (entry .args .n) 1 = next-is (the-new .ensures) (the-number .ensures) in
+    let next : the-first .result ≡ further (entry .args .n) 1 = the-first .ensures in
     let head = head-is (the-row-at .ensures) (the-enum-told2 .given .1) in
     (rw next (omega (arith, stands-within s, entry .pre .0)), (rw next (stands-two s head .left), entry .pre .1 .1))
 
@@ -152,14 +135,13 @@ first-instant-enum-told-3 t c = search needs
 
 first-instant-first-instant-requires-3 : (t : ℕ) → first-instant-lts.Need-first-instant-requires-3 (calls t) (first-instant-at t) first-instant.Post
 first-instant-first-instant-requires-3 t c κs =
-    let entry = c .before .before .before .before .before .before .before .before .before .before .before in
-    let the-new = c .before .before .before .before .before .before .new in
-    let the-number = c .before .before .before .before .before .before .before .number in
-    let the-row-at = c .before .before .before .before .before .before .before .before .row-at in
+    let entry = c .before .before .before .before .before .before .before .before .before .before in
+    let the-first = c .before .before .before .before .before .before .first-part in
+    let the-row-at = c .before .before .before .before .before .before .before .row-at in
     let the-enum-told2 = c .before .before .before .before .enum-told2 in
     let the-row-at2 = c .before .before .before .row-at2 in
     let s = entry .pre .1 .0 in
-    let next : the-new .result ≡ further (entry .args .n) 1 = next-is (the-new .ensures) (the-number .ensures) in
+    let next : the-first .result ≡ further (entry .args .n) 1 = the-first .ensures in
     let head = head-is (the-row-at .ensures) (the-enum-told2 .given .1) in
     let end : the-row-at2 .result .end ≡ rowAt (entry .args .rows .now) (further (entry .args .n) 1) .end =
     end-is (entry .args .rows .now) (the-row-at2 .ensures) next in
@@ -168,55 +150,52 @@ first-instant-first-instant-requires-3 t c κs =
 
 first-instant-returns-2 : (t : ℕ) → first-instant-lts.Need-returns-2 (calls t) (first-instant-at t) first-instant.Post
 first-instant-returns-2 t c =
-    let entry = c .before .before .before .before .before .before .before in
-    let the-row-at = c .before .before .before .before .row-at in
+    let entry = c .before .before .before .before .before .before in
+    let the-row-at = c .before .before .before .row-at in
     let the-enum-told = c .enum-told in
     λ s kept. instant-none (entry .args .sets .now) s kept (head-is (the-row-at .ensures) (the-enum-told .given .1))
 
 first-instant-returns-3 : (t : ℕ) → first-instant-lts.Need-returns-3 (calls t) (first-instant-at t) first-instant.Post
 first-instant-returns-3 t c =
-    let the-new = c .before .before .before .before .before .before .before .new in
-    let entry = c .before .before .before .before .before .before .before .before .before .before .before .before in
-    let the-number = c .before .before .before .before .before .before .before .before .number in
-    let the-row-at = c .before .before .before .before .before .before .before .before .before .row-at in
+    let entry = c .before .before .before .before .before .before .before .before .before .before .before in
+    let the-first = c .before .before .before .before .before .before .before .first-part in
+    let the-row-at = c .before .before .before .before .before .before .before .before .row-at in
     let the-head = c .before .before .before .before .before .head in
     let the-sets-of = c .before .before .before .sets-of in
     let the-runs-on = c .before .before .runs-on in
     let the-if1 = c .before .if1 in
     let the-first-instant = c .first-instant in
     λ s kept.
-    let next : the-new .result ≡ further (entry .args .n) 1 = next-is (the-new .ensures) (the-number .ensures) in
+    let next : the-first .result ≡ further (entry .args .n) 1 = the-first .ensures in
     let head = head-is (the-row-at .ensures) (the-head .given .1) in
     instant-on (entry .args .sets .now) s kept head (rw next at (the-sets-of .ensures)) (the-runs-on .ensures) (the-if1 .left)
     (rw next at (the-first-instant .ensures))
 
 first-instant-returns-4 : (t : ℕ) → first-instant-lts.Need-returns-4 (calls t) (first-instant-at t) first-instant.Post
 first-instant-returns-4 t c =
-    let the-new = c .before .before .before .before .before .before .before .new in
-    let entry = c .before .before .before .before .before .before .before .before .before .before .before .before in
-    let the-number = c .before .before .before .before .before .before .before .before .number in
-    let the-row-at = c .before .before .before .before .before .before .before .before .before .row-at in
+    let entry = c .before .before .before .before .before .before .before .before .before .before .before in
+    let the-first = c .before .before .before .before .before .before .before .first-part in
+    let the-row-at = c .before .before .before .before .before .before .before .before .row-at in
     let the-enum-told2 = c .before .before .before .before .before .enum-told2 in
     let the-first-instant2 = c .before .before .before .first-instant2 in
     let the-m = c .before .m in
     λ s kept.
-    let next : the-new .result ≡ further (entry .args .n) 1 = next-is (the-new .ensures) (the-number .ensures) in
+    let next : the-first .result ≡ further (entry .args .n) 1 = the-first .ensures in
     let head = head-is (the-row-at .ensures) (the-enum-told2 .given .1) in
     instant-left (entry .args .sets .now) s kept head (rw next at (the-first-instant2 .ensures)) (the-m .given .1)
 
 first-instant-returns-5 : (t : ℕ) → first-instant-lts.Need-returns-5 (calls t) (first-instant-at t) first-instant.Post
 first-instant-returns-5 t c =
-    let the-new = c .before .before .before .before .before .before .before .new in
-    let entry = c .before .before .before .before .before .before .before .before .before .before .before .before in
-    let the-number = c .before .before .before .before .before .before .before .before .number in
-    let the-row-at = c .before .before .before .before .before .before .before .before .before .row-at in
+    let entry = c .before .before .before .before .before .before .before .before .before .before .before in
+    let the-first = c .before .before .before .before .before .before .before .first-part in
+    let the-row-at = c .before .before .before .before .before .before .before .before .row-at in
     let the-enum-told2 = c .before .before .before .before .before .enum-told2 in
     let the-row-at2 = c .before .before .before .before .row-at2 in
     let the-first-instant2 = c .before .before .before .first-instant2 in
     let the-enum-told3 = c .before .enum-told3 in
     let the-first-instant3 = c .first-instant3 in
     λ s kept.
-    let next : the-new .result ≡ further (entry .args .n) 1 = next-is (the-new .ensures) (the-number .ensures) in
+    let next : the-first .result ≡ further (entry .args .n) 1 = the-first .ensures in
     let head = head-is (the-row-at .ensures) (the-enum-told2 .given .1) in
     let end : the-row-at2 .result .end ≡ rowAt (entry .args .rows .now) (further (entry .args .n) 1) .end =
     end-is (entry .args .rows .now) (the-row-at2 .ensures) next in
@@ -227,10 +206,8 @@ pub +first-instant-spec : {M : Type 1} → statement M
 +first-instant-spec = close μ-first-instant λ t. first-instant-lts.spec (
   row-at-reads.Asked,
   row-at-reads.Learnt,
-  number-reads.Asked,
-  number-reads.Learnt,
-  new-reads.Asked,
-  new-reads.Learnt,
+  first-part-reads.Asked,
+  first-part-reads.Learnt,
   sets-of-reads.Asked,
   sets-of-reads.Learnt,
   runs-on-reads.Asked,
@@ -241,9 +218,7 @@ pub +first-instant-spec : {M : Type 1} → statement M
     (first-instant-at t)
     first-instant.Post
     (first-instant-row-at-requires t)
-    (first-instant-number-requires t)
-    (first-instant-add-new t)
-    (first-instant-new-requires t)
+    (first-instant-first-part-requires t)
     (first-instant-enum-told t)
     (first-instant-enum-known-head t)
     (first-instant-sets-of-requires t)

@@ -7,7 +7,7 @@ use lib.ListN.{length}
 use Rattle.number.specs.Counts.{ofStmt}
 use Rattle.sheet.specs.Read.{further}
 use Rattle.sheet.specs.Rows.{rowAt}
-use Rattle.sets.proofs.Standing.{next-is, head-is, end-is, stands-within, stands-next, stands-one, stands-two, second-later}
+use Rattle.sets.proofs.Standing.{head-is, end-is, stands-within, stands-number, stands-one, stands-two, second-later}
 use mathlib.Core.Bool.{_&&_}
 use Rattle.bits.specs.Bits.{has}
 use Rattle.sets.specs.Words.{codeCount}
@@ -19,8 +19,7 @@ use borrow.Fn.PlainCycle.{Measures, is, falls, and}
 use Rattle.sets.proofs.first_led.Reads as first-led
 use Rattle.sets.proofs.first_led.Kinds as first-led-kinds
 use Rattle.sets.proofs.+first_led.Lts-first_led as first-led-lts
-use Rattle.number.proofs.StmtNo.new.Reads as new-reads
-use Rattle.number.proofs.StmtNo.number.Reads as number-reads
+use Rattle.sheet.proofs.first_part.Reads as first-part-reads
 use Rattle.sets.proofs.is_led.Reads as is-led-reads
 use Rattle.sets.proofs.leads_left.Reads as leads-left-reads
 use Rattle.sets.proofs.leads_one.Reads as leads-one-reads
@@ -48,10 +47,8 @@ calls t = (
   sets-of-reads.Learnt,
   is-led-reads.Asked,
   is-led-reads.Learnt,
-  number-reads.Asked,
-  number-reads.Learnt,
-  new-reads.Asked,
-  new-reads.Learnt,
+  first-part-reads.Asked,
+  first-part-reads.Learnt,
   leads-one-reads.Asked,
   leads-one-reads.Learnt,
   first-led-below t,
@@ -84,17 +81,8 @@ first-led-returns t c =
     let test = the-is-led .ensures ∙ (λ i. isX (the-row-at .ensures i .head) && meet codeCount (has (the-sets-of .result .r)) (has (entry .args .f))) in
     led-here (entry .args .sets .now) s kept (has (entry .args .f)) (the-sets-of .ensures) test (the-if1 .taken)
 
-first-led-number-requires : (t : ℕ) → first-led-lts.Need-number-requires (calls t) (first-led-at t) first-led.Post
-first-led-number-requires t c κs = search needs
-
-first-led-add-new : (t : ℕ) → first-led-lts.Need-add-new (calls t) (first-led-at t) first-led.Post
-first-led-add-new t c =
-    let entry = c .before .before .before .before .before .before .before in
-    let the-number = c .number in
-    let few = stands-next (entry .pre .1 .0) in rw (the-number .ensures) (omega arith)
-
-first-led-new-requires : (t : ℕ) → first-led-lts.Need-new-requires (calls t) (first-led-at t) first-led.Post
-first-led-new-requires t c κs = search needs
+first-led-first-part-requires : (t : ℕ) → first-led-lts.Need-first-part-requires (calls t) (first-led-at t) first-led.Post
+first-led-first-part-requires t c κs = stands-number (c .before .before .before .before .before .before .pre .1 .0)
 
 first-led-enum-told : (t : ℕ) → first-led-lts.Need-enum-told (calls t) (first-led-at t) first-led.Post
 first-led-enum-told t c = search needs
@@ -107,13 +95,12 @@ first-led-leads-one-requires t c κs = search needs
 
 first-led-first-led-requires : (t : ℕ) → first-led-lts.Need-first-led-requires (calls t) (first-led-at t) first-led.Post
 first-led-first-led-requires t c κs =
-    let entry = c .before .before .before .before .before .before .before .before .before .before .before .before in
-    let the-new = c .before .before .before .before .new in
-    let the-number = c .before .before .before .before .before .number in
-    let the-row-at = c .before .before .before .before .before .before .before .before .before .row-at in
+    let entry = c .before .before .before .before .before .before .before .before .before .before .before in
+    let the-first = c .before .before .before .before .first-part in
+    let the-row-at = c .before .before .before .before .before .before .before .before .row-at in
     let the-head = c .before .before .head in
     let s = entry .pre .1 .0 in
-    let next : the-new .result ≡ further (entry .args .n) 1 = next-is (the-new .ensures) (the-number .ensures) in
+    let next : the-first .result ≡ further (entry .args .n) 1 = the-first .ensures in
     let head = head-is (the-row-at .ensures) (the-head .given .1) in
     (rw next (omega (arith, stands-within s, entry .pre .0)), (rw next (stands-one s head .part), entry .pre .1 .1))
 
@@ -122,26 +109,24 @@ first-led-enum-known-head-2 t c = search needs
 
 first-led-row-at-requires-2 : (t : ℕ) → first-led-lts.Need-row-at-requires-2 (calls t) (first-led-at t) first-led.Post
 first-led-row-at-requires-2 t c κs =
-    let entry = c .before .before .before .before .before .before .before .before .before .before .before in
-    let the-new = c .before .before .before .new in
-    let the-number = c .before .before .before .before .number in
-    let the-row-at = c .before .before .before .before .before .before .before .before .row-at in
+    let entry = c .before .before .before .before .before .before .before .before .before .before in
+    let the-first = c .before .before .before .first-part in
+    let the-row-at = c .before .before .before .before .before .before .before .row-at in
     let the-head2 = c .before .head2 in
     let s = entry .pre .1 .0 in
-    let next : the-new .result ≡ further (entry .args .n) 1 = next-is (the-new .ensures) (the-number .ensures) in
+    let next : the-first .result ≡ further (entry .args .n) 1 = the-first .ensures in
     let head = head-is (the-row-at .ensures) (the-head2 .given .1) in
     rw next (stands-within (stands-two s head .left))
 
 first-led-sets-of-requires-2 : (t : ℕ) → first-led-lts.Need-sets-of-requires-2 (calls t) (first-led-at t) first-led.Post
 first-led-sets-of-requires-2 t c κs =
-    let entry = c .before .before .before .before .before .before .before .before .before .before .before .before in
-    let the-new = c .before .before .before .before .new in
-    let the-number = c .before .before .before .before .before .number in
-    let the-row-at = c .before .before .before .before .before .before .before .before .before .row-at in
+    let entry = c .before .before .before .before .before .before .before .before .before .before .before in
+    let the-first = c .before .before .before .before .first-part in
+    let the-row-at = c .before .before .before .before .before .before .before .before .row-at in
     let the-head2 = c .before .before .head2 in
     let the-row-at2 = c .row-at2 in
     let s = entry .pre .1 .0 in
-    let next : the-new .result ≡ further (entry .args .n) 1 = next-is (the-new .ensures) (the-number .ensures) in
+    let next : the-first .result ≡ further (entry .args .n) 1 = the-first .ensures in
     let head = head-is (the-row-at .ensures) (the-head2 .given .1) in
     let end : the-row-at2 .result .end ≡ rowAt (entry .args .rows .now) (further (entry .args .n) 1) .end =
     end-is (entry .args .rows .now) (the-row-at2 .ensures) next in
@@ -154,13 +139,12 @@ first-led-leads-left-requires t c κs =
 
 first-led-first-led-requires-2 : (t : ℕ) → first-led-lts.Need-first-led-requires-2 (calls t) (first-led-at t) first-led.Post
 first-led-first-led-requires-2 t c κs =
-    let entry = c .before .before .before .before .before .before .before .before .before .before .before .before .before .before in
-    let the-new = c .before .before .before .before .before .before .new in
-    let the-number = c .before .before .before .before .before .before .before .number in
-    let the-row-at = c .before .before .before .before .before .before .before .before .before .before .before .row-at in
+    let entry = c .before .before .before .before .before .before .before .before .before .before .before .before .before in
+    let the-first = c .before .before .before .before .before .before .first-part in
+    let the-row-at = c .before .before .before .before .before .before .before .before .before .before .row-at in
     let the-head2 = c .before .before .before .before .head2 in
     let s = entry .pre .1 .0 in
-    let next : the-new .result ≡ further (entry .args .n) 1 = next-is (the-new .ensures) (the-number .ensures) in
+    let next : the-first .result ≡ further (entry .args .n) 1 = the-first .ensures in
     let head = head-is (the-row-at .ensures) (the-head2 .given .1) in
     (rw next (omega (arith, stands-within s, entry .pre .0)), (rw next (stands-two s head .left), entry .pre .1 .1))
 
@@ -172,13 +156,12 @@ first-led-enum-told-2 t c = search needs
 
 first-led-sets-of-requires-3 : (t : ℕ) → first-led-lts.Need-sets-of-requires-3 (calls t) (first-led-at t) first-led.Post
 first-led-sets-of-requires-3 t c κs =
-    let entry = c .before .before .before .before .before .before .before .before .before .before .before .before .before .before .before .before .before in
-    let the-new = c .before .before .before .before .before .before .before .before .before .new in
-    let the-number = c .before .before .before .before .before .before .before .before .before .before .number in
-    let the-row-at = c .before .before .before .before .before .before .before .before .before .before .before .before .before .before .row-at in
+    let entry = c .before .before .before .before .before .before .before .before .before .before .before .before .before .before .before .before in
+    let the-first = c .before .before .before .before .before .before .before .before .before .first-part in
+    let the-row-at = c .before .before .before .before .before .before .before .before .before .before .before .before .before .row-at in
     let the-head2 = c .before .before .before .before .before .before .before .head2 in
     let s = entry .pre .1 .0 in
-    let next : the-new .result ≡ further (entry .args .n) 1 = next-is (the-new .ensures) (the-number .ensures) in
+    let next : the-first .result ≡ further (entry .args .n) 1 = the-first .ensures in
     let head = head-is (the-row-at .ensures) (the-head2 .given .1) in
     rw next (omega (arith, stands-within (stands-two s head .left), entry .pre .1 .1))
 
@@ -187,14 +170,13 @@ first-led-leads-right-requires t c κs = c .sets-of3 .ensures .r-small
 
 first-led-first-led-requires-3 : (t : ℕ) → first-led-lts.Need-first-led-requires-3 (calls t) (first-led-at t) first-led.Post
 first-led-first-led-requires-3 t c κs =
-    let entry = c .before .before .before .before .before .before .before .before .before .before .before .before .before .before .before .before .before .before .before in
-    let the-new = c .before .before .before .before .before .before .before .before .before .before .before .new in
-    let the-number = c .before .before .before .before .before .before .before .before .before .before .before .before .number in
-    let the-row-at = c .before .before .before .before .before .before .before .before .before .before .before .before .before .before .before .before .row-at in
+    let entry = c .before .before .before .before .before .before .before .before .before .before .before .before .before .before .before .before .before .before in
+    let the-first = c .before .before .before .before .before .before .before .before .before .before .before .first-part in
+    let the-row-at = c .before .before .before .before .before .before .before .before .before .before .before .before .before .before .before .row-at in
     let the-head2 = c .before .before .before .before .before .before .before .before .before .head2 in
     let the-row-at2 = c .before .before .before .before .before .before .before .row-at2 in
     let s = entry .pre .1 .0 in
-    let next : the-new .result ≡ further (entry .args .n) 1 = next-is (the-new .ensures) (the-number .ensures) in
+    let next : the-first .result ≡ further (entry .args .n) 1 = the-first .ensures in
     let head = head-is (the-row-at .ensures) (the-head2 .given .1) in
     let end : the-row-at2 .result .end ≡ rowAt (entry .args .rows .now) (further (entry .args .n) 1) .end =
     end-is (entry .args .rows .now) (the-row-at2 .ensures) next in
@@ -203,10 +185,10 @@ first-led-first-led-requires-3 t c κs =
 
 first-led-returns-2 : (t : ℕ) → first-led-lts.Need-returns-2 (calls t) (first-led-at t) first-led.Post
 first-led-returns-2 t c =
-    let the-is-led = c .before .before .before .before .before .is-led in
-    let the-row-at = c .before .before .before .before .before .before .before .row-at in
-    let the-sets-of = c .before .before .before .before .before .before .sets-of in
-    let entry = c .before .before .before .before .before .before .before .before .before .before in
+    let the-is-led = c .before .before .before .before .is-led in
+    let the-row-at = c .before .before .before .before .before .before .row-at in
+    let the-sets-of = c .before .before .before .before .before .sets-of in
+    let entry = c .before .before .before .before .before .before .before .before .before in
     let the-enum-told = c .enum-told in
     λ s kept.
     let test = the-is-led .ensures ∙ (λ i. isX (the-row-at .ensures i .head) && meet codeCount (has (the-sets-of .result .r)) (has (entry .args .f))) in
@@ -214,18 +196,17 @@ first-led-returns-2 t c =
 
 first-led-returns-3 : (t : ℕ) → first-led-lts.Need-returns-3 (calls t) (first-led-at t) first-led.Post
 first-led-returns-3 t c =
-    let the-new = c .before .before .before .before .before .new in
-    let entry = c .before .before .before .before .before .before .before .before .before .before .before .before .before in
-    let the-number = c .before .before .before .before .before .before .number in
-    let the-row-at = c .before .before .before .before .before .before .before .before .before .before .row-at in
+    let entry = c .before .before .before .before .before .before .before .before .before .before .before .before in
+    let the-first = c .before .before .before .before .before .first-part in
+    let the-row-at = c .before .before .before .before .before .before .before .before .before .row-at in
     let the-head = c .before .before .before .head in
-    let the-is-led = c .before .before .before .before .before .before .before .before .is-led in
-    let the-sets-of = c .before .before .before .before .before .before .before .before .before .sets-of in
-    let the-if1 = c .before .before .before .before .before .before .before .if1 in
+    let the-is-led = c .before .before .before .before .before .before .before .is-led in
+    let the-sets-of = c .before .before .before .before .before .before .before .before .sets-of in
+    let the-if1 = c .before .before .before .before .before .before .if1 in
     let the-leads-one = c .before .leads-one in
     let the-first-led = c .first-led in
     λ s kept.
-    let next : the-new .result ≡ further (entry .args .n) 1 = next-is (the-new .ensures) (the-number .ensures) in
+    let next : the-first .result ≡ further (entry .args .n) 1 = the-first .ensures in
     let head = head-is (the-row-at .ensures) (the-head .given .1) in
     let test = the-is-led .ensures ∙ (λ i. isX (the-row-at .ensures i .head) && meet codeCount (has (the-sets-of .result .r)) (has (entry .args .f))) in
     led-one (entry .args .sets .now) s kept (has (entry .args .f)) (the-sets-of .ensures) test (the-if1 .left) head (the-leads-one .ensures)
@@ -233,21 +214,20 @@ first-led-returns-3 t c =
 
 first-led-returns-4 : (t : ℕ) → first-led-lts.Need-returns-4 (calls t) (first-led-at t) first-led.Post
 first-led-returns-4 t c =
-    let the-new = c .before .before .before .before .before .before .before .before .before .before .new in
-    let entry = c .before .before .before .before .before .before .before .before .before .before .before .before .before .before .before .before .before .before in
-    let the-number = c .before .before .before .before .before .before .before .before .before .before .before .number in
-    let the-row-at = c .before .before .before .before .before .before .before .before .before .before .before .before .before .before .before .row-at in
+    let entry = c .before .before .before .before .before .before .before .before .before .before .before .before .before .before .before .before .before in
+    let the-first = c .before .before .before .before .before .before .before .before .before .before .first-part in
+    let the-row-at = c .before .before .before .before .before .before .before .before .before .before .before .before .before .before .row-at in
     let the-head2 = c .before .before .before .before .before .before .before .before .head2 in
     let the-row-at2 = c .before .before .before .before .before .before .row-at2 in
-    let the-is-led = c .before .before .before .before .before .before .before .before .before .before .before .before .before .is-led in
-    let the-sets-of = c .before .before .before .before .before .before .before .before .before .before .before .before .before .before .sets-of in
-    let the-if1 = c .before .before .before .before .before .before .before .before .before .before .before .before .if1 in
+    let the-is-led = c .before .before .before .before .before .before .before .before .before .before .before .before .is-led in
+    let the-sets-of = c .before .before .before .before .before .before .before .before .before .before .before .before .before .sets-of in
+    let the-if1 = c .before .before .before .before .before .before .before .before .before .before .before .if1 in
     let the-sets-of2 = c .before .before .before .before .before .sets-of2 in
     let the-leads-left = c .before .before .before .before .leads-left in
     let the-first-led2 = c .before .before .before .first-led2 in
     let the-m = c .before .m in
     λ s kept.
-    let next : the-new .result ≡ further (entry .args .n) 1 = next-is (the-new .ensures) (the-number .ensures) in
+    let next : the-first .result ≡ further (entry .args .n) 1 = the-first .ensures in
     let head = head-is (the-row-at .ensures) (the-head2 .given .1) in
     let end : the-row-at2 .result .end ≡ rowAt (entry .args .rows .now) (further (entry .args .n) 1) .end =
     end-is (entry .args .rows .now) (the-row-at2 .ensures) next in
@@ -257,15 +237,14 @@ first-led-returns-4 t c =
 
 first-led-returns-5 : (t : ℕ) → first-led-lts.Need-returns-5 (calls t) (first-led-at t) first-led.Post
 first-led-returns-5 t c =
-    let the-new = c .before .before .before .before .before .before .before .before .before .before .before .before .new in
-    let entry = c .before .before .before .before .before .before .before .before .before .before .before .before .before .before .before .before .before .before .before .before in
-    let the-number = c .before .before .before .before .before .before .before .before .before .before .before .before .before .number in
-    let the-row-at = c .before .before .before .before .before .before .before .before .before .before .before .before .before .before .before .before .before .row-at in
+    let entry = c .before .before .before .before .before .before .before .before .before .before .before .before .before .before .before .before .before .before .before in
+    let the-first = c .before .before .before .before .before .before .before .before .before .before .before .before .first-part in
+    let the-row-at = c .before .before .before .before .before .before .before .before .before .before .before .before .before .before .before .before .row-at in
     let the-head2 = c .before .before .before .before .before .before .before .before .before .before .head2 in
     let the-row-at2 = c .before .before .before .before .before .before .before .before .row-at2 in
-    let the-is-led = c .before .before .before .before .before .before .before .before .before .before .before .before .before .before .before .is-led in
-    let the-sets-of = c .before .before .before .before .before .before .before .before .before .before .before .before .before .before .before .before .sets-of in
-    let the-if1 = c .before .before .before .before .before .before .before .before .before .before .before .before .before .before .if1 in
+    let the-is-led = c .before .before .before .before .before .before .before .before .before .before .before .before .before .before .is-led in
+    let the-sets-of = c .before .before .before .before .before .before .before .before .before .before .before .before .before .before .before .sets-of in
+    let the-if1 = c .before .before .before .before .before .before .before .before .before .before .before .before .before .if1 in
     let the-sets-of2 = c .before .before .before .before .before .before .before .sets-of2 in
     let the-leads-left = c .before .before .before .before .before .before .leads-left in
     let the-first-led2 = c .before .before .before .before .before .first-led2 in
@@ -274,7 +253,7 @@ first-led-returns-5 t c =
     let the-leads-right = c .before .leads-right in
     let the-first-led3 = c .first-led3 in
     λ s kept.
-    let next : the-new .result ≡ further (entry .args .n) 1 = next-is (the-new .ensures) (the-number .ensures) in
+    let next : the-first .result ≡ further (entry .args .n) 1 = the-first .ensures in
     let head = head-is (the-row-at .ensures) (the-head2 .given .1) in
     let end : the-row-at2 .result .end ≡ rowAt (entry .args .rows .now) (further (entry .args .n) 1) .end =
     end-is (entry .args .rows .now) (the-row-at2 .ensures) next in
@@ -291,10 +270,8 @@ pub +first-led-spec : {M : Type 1} → statement M
   sets-of-reads.Learnt,
   is-led-reads.Asked,
   is-led-reads.Learnt,
-  number-reads.Asked,
-  number-reads.Learnt,
-  new-reads.Asked,
-  new-reads.Learnt,
+  first-part-reads.Asked,
+  first-part-reads.Learnt,
   leads-one-reads.Asked,
   leads-one-reads.Learnt,
   first-led-below t,
@@ -310,9 +287,7 @@ pub +first-led-spec : {M : Type 1} → statement M
     (first-led-sets-of-requires t)
     (first-led-is-led-requires t)
     (first-led-returns t)
-    (first-led-number-requires t)
-    (first-led-add-new t)
-    (first-led-new-requires t)
+    (first-led-first-part-requires t)
     (first-led-enum-told t)
     (first-led-enum-known-head t)
     (first-led-leads-one-requires t)

@@ -3,12 +3,14 @@ use Prim.Native.Nat.{ℕ, _<_}
 use native.Mathlib.Omega.{arith}
 use mathlib.Core.Path.{sym, ap, _∙_}
 use borrow.Author.Needs.{needs}
+use borrow.Author.Tests.{leb-true, leb-false}
 use borrow.Fn.Kinds.{In}
 use borrow.Fn.PlainCycle.{Measures, is, falls, and}
-use Rattle.number.proofs.StmtNo.new.Reads as new-reads
-use Rattle.number.proofs.StmtNo.number.Reads as number-reads
+use Rattle.number.specs.Counts.{ofStmt}
+use Rattle.limits.proofs.statements_full.Reads as statements-full-reads
 use Rattle.sheet.proofs.inner.Reads as inner-reads
 use Rattle.sheet.proofs.noted.Reads as noted-reads
+use Rattle.sheet.proofs.first_part.Reads as first-part-reads
 use Rattle.sheet.proofs.read_head.Reads as read-head-reads
 use Rattle.sheet.proofs.read_stmt.Reads as reads
 use Rattle.sheet.proofs.read_stmt.Kinds as kinds
@@ -32,12 +34,12 @@ below t = and 2 kinds.ps (falls 2 kinds.ps _<_ μ t) reads.Pre
 -- what each call asks and ensures
 abbrev calls : ℕ → lts.Claims
 calls t = (
-  number-reads.Asked,
-  number-reads.Learnt,
+  statements-full-reads.Asked,
+  statements-full-reads.Learnt,
+  first-part-reads.Asked,
+  first-part-reads.Learnt,
   read-head-reads.Asked,
   read-head-reads.Learnt,
-  new-reads.Asked,
-  new-reads.Learnt,
   noted-reads.Asked,
   noted-reads.Learnt,
   inner-reads.Asked,
@@ -46,18 +48,25 @@ calls t = (
   reads.Post,
 )
 
-number-requires : (t : ℕ) → lts.Need-number-requires (calls t) (entered t) reads.Post
-number-requires t c κs = search needs
-
 -- no level is left
 returns : (t : ℕ) → lts.Need-returns (calls t) (entered t) reads.Post
 returns t c = answers.level-stop _ _ _ _ _ (c .if1 .taken)
 
+statements-full-requires : (t : ℕ) → lts.Need-statements-full-requires (calls t) (entered t) reads.Post
+statements-full-requires t c κs = search needs
+
 -- 256 statements stand before it
 returns-2 : (t : ℕ) → lts.Need-returns-2 (calls t) (entered t) reads.Post
 returns-2 t c =
-    let a = c .before .before .before .before .before .args in
-    answers.number-stop (a .left) (a .s .now) (around (a .e)) (a .n) (a .m) (rw (c .before .before .number .ensures) at (c .if2 .taken))
+    let at-start = c .before .before .before .before .before in
+    let a = at-start .args in
+    answers.number-stop (a .left) (a .s .now) (around (a .e)) (a .n) (a .m) (leb-true 256 (ofStmt (at-start .args .n)) (sym
+    (c .before .statements-full .ensures) ∙ c .if2 .taken))
+
+first-part-requires : (t : ℕ) → lts.Need-first-part-requires (calls t) (entered t) reads.Post
+first-part-requires t c κs =
+    let at-start = c .before .before .before .before .before in
+    omega (arith, leb-false 256 (ofStmt (at-start .args .n)) (sym (c .before .statements-full .ensures) ∙ c .if2 .left))
 
 read-head-requires : (t : ℕ) → lts.Need-read-head-requires (calls t) (entered t) reads.Post
 read-head-requires t c κs = search needs
@@ -71,20 +80,15 @@ enum-known-head t c = search needs
 enum-told : (t : ℕ) → lts.Need-enum-told (calls t) (entered t) reads.Post
 enum-told t c = search needs
 
-add-new : (t : ℕ) → lts.Need-add-new (calls t) (entered t) reads.Post
-add-new t c = search needs
-
-new-requires : (t : ℕ) → lts.Need-new-requires (calls t) (entered t) reads.Post
-new-requires t c κs = search needs
-
 -- the number past it is 256 at most
 noted-requires : (t : ℕ) → lts.Need-noted-requires (calls t) (entered t) reads.Post
 noted-requires t c κs =
-    let asked = c .before .before .before .before .before .before .before .before .before .before .before .before .before .pre in
-    let few = rw (c .before .before .before .before .before .before .before .before .before .before .number .ensures) at
-    (c .before .before .before .before .before .before .before .before .if2 .left) in
-    let number = c .before .before .before .before .before .before .before .before .before .before .number .ensures in
-    (omega (arith, asked, few), rw (c .new .ensures, number) (omega (arith, few)))
+    let at-first-part = c .before .before .before .before .before .before .before in
+    let at-if2 = at-first-part .before in
+    let at-statements-full = at-if2 .before in
+    let at-start = at-statements-full .before .before .before .before in
+    let few = leb-false 256 (ofStmt (at-start .args .n)) (sym (at-statements-full .statements-full .ensures) ∙ at-if2 .if2 .left) in
+    (omega (arith, at-start .pre, few), rw (at-first-part .first-part .ensures) (omega (arith, few)))
 
 enum-known-head-2 : (t : ℕ) → lts.Need-enum-known-head-2 (calls t) (entered t) reads.Post
 enum-known-head-2 t c = search needs
@@ -95,19 +99,14 @@ sub-read-stmt t c = search needs
 -- a local that was read has a number below 64
 inner-requires : (t : ℕ) → lts.Need-inner-requires (calls t) (entered t) reads.Post
 inner-requires t c κs =
-    let after-head = c .before .before .before .before .before .before .before in
-    let a = after-head .before .before .before .before .before .before .args in
-    let head = sym (after-head .read-head .ensures) ∙ c .before .before .before .before .before .head .given .1 in
-    let fits = local-fits (a .s .now) (around (a .e)) (a .m)
-    (head ∙ ap (λ x. Read x (c .before .before .before .before .before .head .given .0 .1 .0)) (c .before .before .head2 .given .1)) in
-    let asked = after-head .before .before .before .before .before .before .pre in
-    (omega (arith, asked, after-head .before .before .if1 .left), fits)
-
-add-new-2 : (t : ℕ) → lts.Need-add-new-2 (calls t) (entered t) reads.Post
-add-new-2 t c = search needs
-
-new-requires-2 : (t : ℕ) → lts.Need-new-requires-2 (calls t) (entered t) reads.Post
-new-requires-2 t c κs = search needs
+    let at-head = c .before .before .before .before .before in
+    let at-read-head = at-head .before .before in
+    let at-if1 = at-read-head .before .before .before .before in
+    let at-start = at-if1 .before .before .before in
+    let a = at-start .args in
+    let head = sym (at-read-head .read-head .ensures) ∙ at-head .head .given .1 in
+    let one = head ∙ ap (λ x. Read x (at-head .head .given .0 .1 .0)) (c .before .before .head2 .given .1) in
+    (omega (arith, at-start .pre, at-if1 .if1 .left), local-fits (a .s .now) (around (a .e)) (a .m) one)
 
 read-stmt-requires : (t : ℕ) → lts.Need-read-stmt-requires (calls t) (entered t) reads.Post
 read-stmt-requires t c κs = search needs
@@ -121,28 +120,20 @@ enum-known-end t c = search needs
 -- the part ends at 256 at most
 noted-requires-2 : (t : ℕ) → lts.Need-noted-requires-2 (calls t) (entered t) reads.Post
 noted-requires-2 t c κs =
-    let after-part = c .before .before .before .before .before .before in
-    let asked =
-    after-part .before .before .before .before .before .before .before .before .before .before .before .before .before .before .before .before .pre
-    in
-    let few = rw
-    (after-part .before .before .before .before .before .before .before .before .before .before .before .before .before .number .ensures) at
-    (after-part .before .before .before .before .before .before .before .before .before .before .before .if2 .left) in
-    let length = after-part .read-stmt .kept .1 .0 in
-    let ends = answers.end-few _ _ _ _ _ (after-part .read-stmt .ensures) (c .before .before .end .given .1) in
-    (omega (arith, asked, length, few), omega (arith, ends))
+    let at-read-stmt = c .before .before .before .before .before .before in
+    let at-if2 = at-read-stmt .before .before .before .before .before .before .before .before .before .before .before in
+    let at-statements-full = at-if2 .before in
+    let at-start = at-statements-full .before .before .before .before in
+    let few = leb-false 256 (ofStmt (at-start .args .n)) (sym (at-statements-full .statements-full .ensures) ∙ at-if2 .if2 .left) in
+    let length = at-read-stmt .read-stmt .kept .1 .0 in
+    let ends = answers.end-few _ _ _ _ _ (at-read-stmt .read-stmt .ensures) (c .before .before .end .given .1) in
+    (omega (arith, at-start .pre, length, few), omega (arith, ends))
 
 enum-told-2 : (t : ℕ) → lts.Need-enum-told-2 (calls t) (entered t) reads.Post
 enum-told-2 t c = search needs
 
 sub-read-stmt-2 : (t : ℕ) → lts.Need-sub-read-stmt-2 (calls t) (entered t) reads.Post
 sub-read-stmt-2 t c = search needs
-
-add-new-3 : (t : ℕ) → lts.Need-add-new-3 (calls t) (entered t) reads.Post
-add-new-3 t c = search needs
-
-new-requires-3 : (t : ℕ) → lts.Need-new-requires-3 (calls t) (entered t) reads.Post
-new-requires-3 t c κs = search needs
 
 read-stmt-requires-2 : (t : ℕ) → lts.Need-read-stmt-requires-2 (calls t) (entered t) reads.Post
 read-stmt-requires-2 t c κs = search needs
@@ -158,10 +149,12 @@ sub-read-stmt-3 t c = search needs
 
 read-stmt-requires-3 : (t : ℕ) → lts.Need-read-stmt-requires-3 (calls t) (entered t) reads.Post
 read-stmt-requires-3 t c κs =
-    let after-first = c .before .before .before .before .before .before in
-    let asked = after-first .before .before .before .before .before .before .before .before .before .before .before .before .before .before .pre in
-    let length = after-first .read-stmt2 .kept .1 .0 in
-    let some = after-first .before .before .before .before .before .before .before .before .before .before .if1 .left in
+    let at-read-stmt2 = c .before .before .before .before .before .before in
+    let at-if1 = at-read-stmt2 .before .before .before .before .before .before .before .before .before .before .before in
+    let at-start = at-if1 .before .before .before in
+    let asked = at-start .pre in
+    let length = at-read-stmt2 .read-stmt2 .kept .1 .0 in
+    let some = at-if1 .if1 .left in
     (omega (arith, asked, some), (omega (arith, asked, length), omega (arith, asked, some)))
 
 enum-known-f-4 : (t : ℕ) → lts.Need-enum-known-f-4 (calls t) (entered t) reads.Post
@@ -173,24 +166,29 @@ enum-known-end-2 t c = search needs
 -- the second part ends at 256 at most
 noted-requires-3 : (t : ℕ) → lts.Need-noted-requires-3 (calls t) (entered t) reads.Post
 noted-requires-3 t c κs =
-    let after-second = c .before .before .before .before .before .before in
-    let after-first = after-second .before .before .before .before .before .before .before in
-    let asked = after-first .before .before .before .before .before .before .before .before .before .before .before .before .before .before .pre in
-    let few = rw (after-first .before .before .before .before .before .before .before .before .before .before .before .number .ensures) at
-    (after-first .before .before .before .before .before .before .before .before .before .if2 .left) in
-    let length = after-first .read-stmt2 .kept .1 .0 in
-    let length2 = after-second .read-stmt3 .kept .1 .0 in
-    let ends = answers.end-few _ _ _ _ _ (after-second .read-stmt3 .ensures) (c .before .before .end2 .given .1) in
-    (omega (arith, asked, length, length2, few), omega (arith, ends))
+    let at-read-stmt3 = c .before .before .before .before .before .before in
+    let at-read-stmt2 = at-read-stmt3 .before .before .before .before .before .before .before in
+    let at-if2 = at-read-stmt2 .before .before .before .before .before .before .before .before .before in
+    let at-statements-full = at-if2 .before in
+    let at-start = at-statements-full .before .before .before .before in
+    let few = leb-false 256 (ofStmt (at-start .args .n)) (sym (at-statements-full .statements-full .ensures) ∙ at-if2 .if2 .left) in
+    let length = at-read-stmt2 .read-stmt2 .kept .1 .0 in
+    let length2 = at-read-stmt3 .read-stmt3 .kept .1 .0 in
+    let ends = answers.end-few _ _ _ _ _ (at-read-stmt3 .read-stmt3 .ensures) (c .before .before .end2 .given .1) in
+    (omega (arith, at-start .pre, length, length2, few), omega (arith, ends))
 
 -- the head is refused
 returns-3 : (t : ℕ) → lts.Need-returns-3 (calls t) (entered t) reads.Post
 returns-3 t c =
-    let after-head = c .before .before .before in
-    let a = after-head .before .before .before .before .before .before .args in
-    let few = rw (after-head .before .before .before .number .ensures) at (after-head .before .if2 .left) in
-    answers.head-stop (a .left) (a .s .now) (around (a .e)) (a .n) (a .m) (after-head .before .before .if1 .left) few
-    (sym (after-head .read-head .ensures) ∙ c .before .f .given .1)
+    let at-read-head = c .before .before .before in
+    let at-if2 = at-read-head .before .before in
+    let at-statements-full = at-if2 .before in
+    let at-if1 = at-statements-full .before in
+    let at-start = at-if1 .before .before .before in
+    let a = at-start .args in
+    let few = leb-false 256 (ofStmt (at-start .args .n)) (sym (at-statements-full .statements-full .ensures) ∙ at-if2 .if2 .left) in
+    answers.head-stop (a .left) (a .s .now) (around (a .e)) (a .n) (a .m) (at-if1 .if1 .left) few (sym (at-read-head .read-head .ensures) ∙
+    c .before .f .given .1)
 
 same-length : (t : ℕ) → lts.Need-same-length (calls t) (entered t) reads.Post
 same-length t c = search needs
@@ -198,14 +196,19 @@ same-length t c = search needs
 -- no parts
 returns-4 : (t : ℕ) → lts.Need-returns-4 (calls t) (entered t) reads.Post
 returns-4 t c =
-    let after-head = c .before .before .before .before .before .before .before .before .before .before in
-    let a = after-head .before .before .before .before .before .before .args in
-    let few = rw (after-head .before .before .before .number .ensures) at (after-head .before .if2 .left) in
-    let head = sym (after-head .read-head .ensures) ∙ c .before .before .before .before .before .before .before .before .head .given .1 in
-    let noted = rw (c .before .before .before .new .ensures, after-head .before .before .before .number .ensures) at
-    (c .before .before .noted .ensures) in
-    answers.leaf-did (a .left) (a .s .now) (around (a .e)) (a .n) (a .m) (after-head .before .before .if1 .left) few head
-    (c .before .before .before .before .before .enum-told .given .1) noted
+    let at-enum-told = c .before .before .before .before in
+    let at-head = at-enum-told .before .before .before in
+    let at-read-head = at-head .before .before in
+    let at-first-part = at-read-head .before in
+    let at-if2 = at-first-part .before in
+    let at-statements-full = at-if2 .before in
+    let at-if1 = at-statements-full .before in
+    let at-start = at-if1 .before .before .before in
+    let a = at-start .args in
+    let few = leb-false 256 (ofStmt (at-start .args .n)) (sym (at-statements-full .statements-full .ensures) ∙ at-if2 .if2 .left) in
+    let head = sym (at-read-head .read-head .ensures) ∙ at-head .head .given .1 in
+    answers.leaf-did (a .left) (a .s .now) (around (a .e)) (a .n) (a .m) (at-if1 .if1 .left) few head (at-enum-told .enum-told .given .1) (rw
+    (at-first-part .first-part .ensures) at (c .before .before .noted .ensures))
 
 same-length-2 : (t : ℕ) → lts.Need-same-length-2 (calls t) (entered t) reads.Post
 same-length-2 t c = search needs
@@ -213,16 +216,22 @@ same-length-2 t c = search needs
 -- one part, refused
 returns-5 : (t : ℕ) → lts.Need-returns-5 (calls t) (entered t) reads.Post
 returns-5 t c =
-    let after-part = c .before .before .before .before .before in
-    let after-head = after-part .before .before .before .before .before .before .before .before .before .before in
-    let a = after-head .before .before .before .before .before .before .args in
-    let few = rw (after-head .before .before .before .number .ensures) at (after-head .before .if2 .left) in
-    let head = sym (after-head .read-head .ensures) ∙ after-part .before .before .before .before .before .before .before .before .head .given .1 in
-    let part = rw
-    (after-part .before .new2 .ensures, after-head .before .before .before .number .ensures, after-part .before .before .inner .ensures .0) at
-    (after-part .read-stmt .ensures) in
-    answers.one-stop (a .left) (a .s .now) (around (a .e)) (a .n) (a .m) (after-head .before .before .if1 .left) few head
-    (after-part .before .before .before .before .before .head2 .given .1) part (c .before .f2 .given .1)
+    let at-read-stmt = c .before .before .before .before .before in
+    let at-inner = at-read-stmt .before in
+    let at-head2 = at-inner .before .before .before in
+    let at-head = at-head2 .before .before .before in
+    let at-read-head = at-head .before .before in
+    let at-first-part = at-read-head .before in
+    let at-if2 = at-first-part .before in
+    let at-statements-full = at-if2 .before in
+    let at-if1 = at-statements-full .before in
+    let at-start = at-if1 .before .before .before in
+    let a = at-start .args in
+    let few = leb-false 256 (ofStmt (at-start .args .n)) (sym (at-statements-full .statements-full .ensures) ∙ at-if2 .if2 .left) in
+    let head = sym (at-read-head .read-head .ensures) ∙ at-head .head .given .1 in
+    let part = rw (at-first-part .first-part .ensures, at-inner .inner .ensures .0) at (at-read-stmt .read-stmt .ensures) in
+    answers.one-stop (a .left) (a .s .now) (around (a .e)) (a .n) (a .m) (at-if1 .if1 .left) few head (at-head2 .head2 .given .1) part
+    (c .before .f2 .given .1)
 
 same-length-3 : (t : ℕ) → lts.Need-same-length-3 (calls t) (entered t) reads.Post
 same-length-3 t c = search needs
@@ -230,17 +239,23 @@ same-length-3 t c = search needs
 -- one part, read
 returns-6 : (t : ℕ) → lts.Need-returns-6 (calls t) (entered t) reads.Post
 returns-6 t c =
-    let after-part = c .before .before .before .before .before .before .before .before .before in
-    let after-head = after-part .before .before .before .before .before .before .before .before .before .before in
-    let a = after-head .before .before .before .before .before .before .args in
-    let few = rw (after-head .before .before .before .number .ensures) at (after-head .before .if2 .left) in
-    let head = sym (after-head .read-head .ensures) ∙ after-part .before .before .before .before .before .before .before .before .head .given .1 in
-    let part = rw
-    (after-part .before .new2 .ensures, after-head .before .before .before .number .ensures, after-part .before .before .inner .ensures .0) at
-    (after-part .read-stmt .ensures) in
-    answers.one-did (a .left) (a .s .now) (around (a .e)) (a .n) (a .m) (after-head .before .before .if1 .left) few head
-    (after-part .before .before .before .before .before .head2 .given .1) part (c .before .before .before .before .before .end .given .1)
-    (c .before .before .noted2 .ensures)
+    let at-end = c .before .before .before .before .before in
+    let at-read-stmt = at-end .before .before .before .before in
+    let at-inner = at-read-stmt .before in
+    let at-head2 = at-inner .before .before .before in
+    let at-head = at-head2 .before .before .before in
+    let at-read-head = at-head .before .before in
+    let at-first-part = at-read-head .before in
+    let at-if2 = at-first-part .before in
+    let at-statements-full = at-if2 .before in
+    let at-if1 = at-statements-full .before in
+    let at-start = at-if1 .before .before .before in
+    let a = at-start .args in
+    let few = leb-false 256 (ofStmt (at-start .args .n)) (sym (at-statements-full .statements-full .ensures) ∙ at-if2 .if2 .left) in
+    let head = sym (at-read-head .read-head .ensures) ∙ at-head .head .given .1 in
+    let part = rw (at-first-part .first-part .ensures, at-inner .inner .ensures .0) at (at-read-stmt .read-stmt .ensures) in
+    answers.one-did (a .left) (a .s .now) (around (a .e)) (a .n) (a .m) (at-if1 .if1 .left) few head (at-head2 .head2 .given .1) part
+    (at-end .end .given .1) (c .before .before .noted2 .ensures)
 
 same-length-4 : (t : ℕ) → lts.Need-same-length-4 (calls t) (entered t) reads.Post
 same-length-4 t c = search needs
@@ -248,14 +263,21 @@ same-length-4 t c = search needs
 -- two parts, the first refused
 returns-7 : (t : ℕ) → lts.Need-returns-7 (calls t) (entered t) reads.Post
 returns-7 t c =
-    let after-first = c .before .before .before .before .before in
-    let after-head = after-first .before .before .before .before .before .before .before .before in
-    let a = after-head .before .before .before .before .before .before .args in
-    let few = rw (after-head .before .before .before .number .ensures) at (after-head .before .if2 .left) in
-    let head = sym (after-head .read-head .ensures) ∙ after-first .before .before .before .before .before .before .head .given .1 in
-    let first = rw (after-first .before .new3 .ensures, after-head .before .before .before .number .ensures) at (after-first .read-stmt2 .ensures) in
-    answers.first-stop (a .left) (a .s .now) (around (a .e)) (a .n) (a .m) (after-head .before .before .if1 .left) few head
-    (after-first .before .before .before .enum-told2 .given .1) first (c .before .f3 .given .1)
+    let at-read-stmt2 = c .before .before .before .before .before in
+    let at-enum-told2 = at-read-stmt2 .before .before in
+    let at-head = at-enum-told2 .before .before .before in
+    let at-read-head = at-head .before .before in
+    let at-first-part = at-read-head .before in
+    let at-if2 = at-first-part .before in
+    let at-statements-full = at-if2 .before in
+    let at-if1 = at-statements-full .before in
+    let at-start = at-if1 .before .before .before in
+    let a = at-start .args in
+    let few = leb-false 256 (ofStmt (at-start .args .n)) (sym (at-statements-full .statements-full .ensures) ∙ at-if2 .if2 .left) in
+    let head = sym (at-read-head .read-head .ensures) ∙ at-head .head .given .1 in
+    let first = rw (at-first-part .first-part .ensures) at (at-read-stmt2 .read-stmt2 .ensures) in
+    answers.first-stop (a .left) (a .s .now) (around (a .e)) (a .n) (a .m) (at-if1 .if1 .left) few head (at-enum-told2 .enum-told2 .given .1) first
+    (c .before .f3 .given .1)
 
 same-length-5 : (t : ℕ) → lts.Need-same-length-5 (calls t) (entered t) reads.Post
 same-length-5 t c = search needs
@@ -263,16 +285,24 @@ same-length-5 t c = search needs
 -- two parts, the second refused
 returns-8 : (t : ℕ) → lts.Need-returns-8 (calls t) (entered t) reads.Post
 returns-8 t c =
-    let after-second = c .before .before .before .before .before in
-    let after-first = after-second .before .before .before .before .before .before .before in
-    let after-head = after-first .before .before .before .before .before .before .before .before in
-    let a = after-head .before .before .before .before .before .before .args in
-    let few = rw (after-head .before .before .before .number .ensures) at (after-head .before .if2 .left) in
-    let head = sym (after-head .read-head .ensures) ∙ after-first .before .before .before .before .before .before .head .given .1 in
-    let first = rw (after-first .before .new3 .ensures, after-head .before .before .before .number .ensures) at (after-first .read-stmt2 .ensures) in
-    answers.second-stop (a .left) (a .s .now) (around (a .e)) (a .n) (a .m) (after-head .before .before .if1 .left) few head
-    (after-first .before .before .before .enum-told2 .given .1) first (after-second .before .before .before .middle .given .1)
-    (after-second .read-stmt3 .ensures) (c .before .f4 .given .1)
+    let at-read-stmt3 = c .before .before .before .before .before in
+    let at-middle = at-read-stmt3 .before .before .before in
+    let at-read-stmt2 = at-middle .before .before .before .before in
+    let at-enum-told2 = at-read-stmt2 .before .before in
+    let at-head = at-enum-told2 .before .before .before in
+    let at-read-head = at-head .before .before in
+    let at-first-part = at-read-head .before in
+    let at-if2 = at-first-part .before in
+    let at-statements-full = at-if2 .before in
+    let at-if1 = at-statements-full .before in
+    let at-start = at-if1 .before .before .before in
+    let a = at-start .args in
+    let few = leb-false 256 (ofStmt (at-start .args .n)) (sym (at-statements-full .statements-full .ensures) ∙ at-if2 .if2 .left) in
+    let head = sym (at-read-head .read-head .ensures) ∙ at-head .head .given .1 in
+    let first = rw (at-first-part .first-part .ensures) at (at-read-stmt2 .read-stmt2 .ensures) in
+    answers.second-stop (a .left) (a .s .now) (around (a .e)) (a .n) (a .m) (at-if1 .if1 .left) few head (at-enum-told2 .enum-told2 .given .1) first
+    (at-middle .middle .given .1)
+    (at-read-stmt3 .read-stmt3 .ensures) (c .before .f4 .given .1)
 
 same-length-6 : (t : ℕ) → lts.Need-same-length-6 (calls t) (entered t) reads.Post
 same-length-6 t c = search needs
@@ -280,42 +310,46 @@ same-length-6 t c = search needs
 -- two parts, both read
 returns-9 : (t : ℕ) → lts.Need-returns-9 (calls t) (entered t) reads.Post
 returns-9 t c =
-    let after-second = c .before .before .before .before .before .before .before .before .before in
-    let after-first = after-second .before .before .before .before .before .before .before in
-    let after-head = after-first .before .before .before .before .before .before .before .before in
-    let a = after-head .before .before .before .before .before .before .args in
-    let few = rw (after-head .before .before .before .number .ensures) at (after-head .before .if2 .left) in
-    let head = sym (after-head .read-head .ensures) ∙ after-first .before .before .before .before .before .before .head .given .1 in
-    let first = rw (after-first .before .new3 .ensures, after-head .before .before .before .number .ensures) at (after-first .read-stmt2 .ensures) in
-    answers.two-did (a .left) (a .s .now) (around (a .e)) (a .n) (a .m) (after-head .before .before .if1 .left) few head
-    (after-first .before .before .before .enum-told2 .given .1) first (after-second .before .before .before .middle .given .1)
-    (after-second .read-stmt3 .ensures) (c .before .before .before .before .before .end2 .given .1) (c .before .before .noted3 .ensures)
+    let at-end2 = c .before .before .before .before .before in
+    let at-read-stmt3 = at-end2 .before .before .before .before in
+    let at-middle = at-read-stmt3 .before .before .before in
+    let at-read-stmt2 = at-middle .before .before .before .before in
+    let at-enum-told2 = at-read-stmt2 .before .before in
+    let at-head = at-enum-told2 .before .before .before in
+    let at-read-head = at-head .before .before in
+    let at-first-part = at-read-head .before in
+    let at-if2 = at-first-part .before in
+    let at-statements-full = at-if2 .before in
+    let at-if1 = at-statements-full .before in
+    let at-start = at-if1 .before .before .before in
+    let a = at-start .args in
+    let few = leb-false 256 (ofStmt (at-start .args .n)) (sym (at-statements-full .statements-full .ensures) ∙ at-if2 .if2 .left) in
+    let head = sym (at-read-head .read-head .ensures) ∙ at-head .head .given .1 in
+    let first = rw (at-first-part .first-part .ensures) at (at-read-stmt2 .read-stmt2 .ensures) in
+    answers.two-did (a .left) (a .s .now) (around (a .e)) (a .n) (a .m) (at-if1 .if1 .left) few head (at-enum-told2 .enum-told2 .given .1) first
+    (at-middle .middle .given .1)
+    (at-read-stmt3 .read-stmt3 .ensures) (at-end2 .end2 .given .1) (c .before .before .noted3 .ensures)
 
 pub +read-stmt-spec : {M : Type 1} → statement M
 +read-stmt-spec = close μ λ t. lts.spec (calls t) (entered t) reads.Post
-    (number-requires t)
     (returns t)
+    (statements-full-requires t)
     (returns-2 t)
+    (first-part-requires t)
     (read-head-requires t)
     (enum-known-f t)
     (enum-known-head t)
     (enum-told t)
-    (add-new t)
-    (new-requires t)
     (noted-requires t)
     (enum-known-head-2 t)
     (sub-read-stmt t)
     (inner-requires t)
-    (add-new-2 t)
-    (new-requires-2 t)
     (read-stmt-requires t)
     (enum-known-f-2 t)
     (enum-known-end t)
     (noted-requires-2 t)
     (enum-told-2 t)
     (sub-read-stmt-2 t)
-    (add-new-3 t)
-    (new-requires-3 t)
     (read-stmt-requires-2 t)
     (enum-known-f-3 t)
     (enum-known-middle t)

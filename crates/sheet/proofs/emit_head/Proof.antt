@@ -1,5 +1,4 @@
 -- The signal that was read decides: none, then its fault; tick or an input, then EMIT; else the emit.
-use borrow.Author.Tests.{le-leb, lt-leb}
 use mathlib.Core.Path.{sym, _∙_}
 use Rattle.number.specs.Number.{pick}
 use Rattle.sheet.specs.Read.{emitting}
@@ -16,8 +15,8 @@ enum-known-f c = search needs
 enum-known-x : tie.Need-enum-known-x
 enum-known-x c = search needs
 
-number-requires : tie.Need-number-requires
-number-requires c κs = search needs
+tick-or-input-requires : tie.Need-tick-or-input-requires
+tick-or-input-requires c κs = search needs
 
 refused-requires : tie.Need-refused-requires
 refused-requires c κs = search needs
@@ -25,9 +24,8 @@ refused-requires c κs = search needs
 returns : tie.Need-returns
 unfolding emitting pick
 returns c =
-    let after-signal = c .before .before .before .before .before .before .before in
-    let signal = sym (after-signal .read-signal .ensures) ∙ c .before .before .before .before .before .x .given .1 in
-    c .refused .ensures ∙ simp (signal, le-leb _ _ (rw (c .before .before .before .number .ensures) at (c .before .if1 .taken)))
+    let signal = sym (c .before .before .before .before .before .before .read-signal .ensures) ∙ c .before .before .before .before .x .given .1 in
+    c .refused .ensures ∙ simp (signal, sym (c .before .before .tick-or-input .ensures) ∙ c .before .if1 .taken)
 
 returns-2 : tie.Need-returns-2
 unfolding emitting
@@ -38,9 +36,8 @@ returns-2 c =
 returns-3 : tie.Need-returns-3
 unfolding emitting pick
 returns-3 c =
-    let after-signal = c .before .before .before .before .before .before in
-    let signal = sym (after-signal .read-signal .ensures) ∙ c .before .before .before .before .x .given .1 in
-    simp (signal, lt-leb _ _ (rw (c .before .before .number .ensures) at (c .if1 .left)))
+    let signal = sym (c .before .before .before .before .before .read-signal .ensures) ∙ c .before .before .before .x .given .1 in
+    simp (signal, sym (c .before .tick-or-input .ensures) ∙ c .if1 .left)
 
 pub emit-head-spec : {M : Type 1} → statement M
 emit-head-spec =
@@ -49,7 +46,7 @@ emit-head-spec =
     read-signal-requires
     enum-known-f
     enum-known-x
-    number-requires
+    tick-or-input-requires
     refused-requires
     returns
     returns-2

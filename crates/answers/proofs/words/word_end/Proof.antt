@@ -1,25 +1,34 @@
--- The loop's invariant: it has not passed the end.
-use lib.ListN.{length}
+-- The loop's invariant: it has not passed the end, and the word ends no earlier.
+use lib.ListN.{length, drop}
+use native.Mathlib.Omega.{arith}
+use mathlib.Core.Path.{_≡_}
 use Rattle.io.proofs.Counting.{counts}
-use Prim.Native.Nat.{_≤_, _-_}
+use Prim.Native.Nat.{_+_, _≤_, _-_}
+use Rattle.answers.specs.Words.{wordEnd}
+use Rattle.answers.proofs.Values.{end-blank, end-later, end-text}
 use borrow.Author.Needs.{needs}
 use Rattle.answers.proofs.words.word_end.Statement.{statement}
 use Rattle.answers.proofs.words.word_end.Tie as tie
 
 abbrev Inv-loop : tie.InvT-loop
-Inv-loop line i₀ i = i ≤ length line
+Inv-loop line i₀ i = (i ≤ length line) × (i + wordEnd (drop i line) ≡ wordEnd line)
 
 abbrev μ-loop : tie.MeasureT-loop
 μ-loop line i₀ i = length line - i
 
 loop-holds : tie.Need-loop-holds Inv-loop μ-loop
-loop-holds c = search needs
+loop-holds c = (omega arith, omega arith)
 
 shared-slice-read-if1 : tie.Need-shared-slice-read-if1 Inv-loop μ-loop
 shared-slice-read-if1 c = search needs
 
 returns : tie.Need-returns Inv-loop μ-loop
-returns c = search (needs, counts)
+returns c =
+    let at-loop = c .before .before .before in
+    let line = at-loop .before .args .line .now in
+    let at = at-loop .loop in
+    let here = end-blank line (at .i) (omega arith) (c .if1 .taken) in
+    (counts _ _ (omega arith), omega (arith, here))
 
 add-i : tie.Need-add-i Inv-loop μ-loop
 add-i c = search needs
@@ -28,10 +37,19 @@ loop-less : tie.Need-loop-less Inv-loop μ-loop
 loop-less c = search needs
 
 loop-again : tie.Need-loop-again Inv-loop μ-loop
-loop-again c = search needs
+loop-again c =
+    let at-loop = c .before .before .before in
+    let line = at-loop .before .args .line .now in
+    let at = at-loop .loop in
+    let later = end-later line (at .i) (omega arith) (c .if1 .left) in
+    (omega arith, omega (arith, later))
 
 returns-2 : tie.Need-returns-2 Inv-loop μ-loop
-returns-2 c = search (needs, counts)
+returns-2 c =
+    let line = c .before .before .args .line .now in
+    let at = c .before .loop in
+    let past = end-text line (at .i) (omega arith) in
+    (counts _ _ (omega arith), omega (arith, past))
 
 pub word-end-spec : {M : Type 1} → statement M
 word-end-spec =

@@ -1,0 +1,67 @@
+-- The theorem is not about nothing: P10 is accepted, so that it says what it says of P10.
+use mathlib.Core.Path.{_≡_, refl}
+use mathlib.Core.List.{List, [], _∷_}
+use Prim.Native.Nat.{ℕ}
+use Rattle.number.specs.Counts.{signalNo, haltNo}
+use Rattle.number.specs.Number.{numberAt, pick}
+use Rattle.sheet.specs.declared.Leaf.the-variants.{Halt, Emit}
+use Rattle.sheet.specs.declared.Unary.the-variants.{Loop, Watching}
+use Rattle.sheet.specs.declared.Binary.the-variants.{Sequence, Parallel}
+use Rattle.sheet.specs.Stmt.{Stmt, leaf, one, two, size, haltCount, localCount}
+use Rattle.sheet.specs.Read.{Sheet, sheet, signalOf, naming, emitting, exiting, haltAt, localAt, trapAt, ofKind, headOfKind, inside, andThen, parts, readStmt}
+use Rattle.sheet.specs.Read.{ended, rootRead, afterOutputs, afterInputs, readSheet}
+use Rattle.sets.specs.Static.{K, R, hasHalts}
+use Rattle.sets.specs.Faults.{orElse, instant, climbs, firstFault, twice}
+use Rattle.gates.specs.Cells.{orAt, andAt, butnotAt}
+use Rattle.gates.specs.Rows.{orRow, pairs, highest, parallelRow}
+use Rattle.builder.specs.Equations.{build, buildHalt, buildEmit, buildSequence, buildLoop, buildPresent, buildWatching, buildParallel, buildTrap}
+use Rattle.builder.specs.Netlist.{netlist, sheetNetlist, rootOf, inputCells, signalCells}
+use Rattle.order.specs.Paths.{Ordered}
+use Rattle.order.proofs.ByTest.{every, inOrder, ordered}
+use Rattle.compiler.specs.Check.{unless, roomy, judged, judge, Accepted, accepted}
+use Rattle.agreement.specs.Words.{EventWords, WordRun}
+use Rattle.agreement.proofs.WordRuns.{word-theorem}
+
+-- "P10 `02 01 04 03 07 06 01 01 06 02 01 03 02 03 06 00 01`: accepted."
+abbrev pub p10Bytes : List ℕ
+p10Bytes = 2 ∷ (1 ∷ (4 ∷ (3 ∷ (7 ∷ (6 ∷ (1 ∷ (1 ∷ (6 ∷ (2 ∷ (1 ∷ (3 ∷ (2 ∷ (3 ∷ (6 ∷ (0 ∷ (1 ∷ []))))))))))))))))
+
+abbrev guarded : ℕ → ℕ → Stmt
+guarded s h = one (Watching (signalNo s)) (leaf (Halt (haltNo h)))
+
+abbrev pub p10 : Sheet
+p10 =
+    record {
+      inputs = 2;
+      outputs = 1;
+      root = one Loop (two Sequence (two Parallel (guarded 1 0) (guarded 2 1)) (two Sequence (leaf (Emit (signalNo 3))) (guarded 0 2)));
+    }
+
+abbrev p10Order : List ℕ
+p10Order =
+    0 ∷ (1 ∷ (2 ∷ (3 ∷ (5 ∷ (6 ∷ (8 ∷ (9 ∷ (10 ∷ (11 ∷ (14 ∷ (15 ∷ (16 ∷ (17 ∷ (18 ∷ (21 ∷ (22 ∷ (23 ∷ (25 ∷ (27 ∷ (28 ∷ (29 ∷ (31 ∷ (32
+    ∷ (7 ∷ (12 ∷ (13 ∷ (19 ∷ (20 ∷ (24 ∷ (26 ∷ (4 ∷ (30 ∷ (33 ∷ (34 ∷ []))))))))))))))))))))))))))))))))))
+
+abbrev p10Places : List ℕ
+p10Places =
+    0 ∷ (1 ∷ (2 ∷ (3 ∷ (31 ∷ (4 ∷ (5 ∷ (24 ∷ (6 ∷ (7 ∷ (8 ∷ (9 ∷ (25 ∷ (26 ∷ (10 ∷ (11 ∷ (12 ∷ (13 ∷ (14 ∷ (27 ∷ (28 ∷ (15 ∷ (16 ∷ (17
+    ∷ (29 ∷ (18 ∷ (30 ∷ (19 ∷ (20 ∷ (21 ∷ (32 ∷ (22 ∷ (23 ∷ (33 ∷ (34 ∷ []))))))))))))))))))))))))))))))))))
+
+p10-ordered : Ordered (sheetNetlist p10) p10Order
+unfolding pick size haltCount localCount K R hasHalts orAt andAt butnotAt orRow pairs highest parallelRow build buildHalt buildEmit buildSequence buildLoop
+    buildPresent buildWatching buildParallel buildTrap netlist rootOf inputCells signalCells every inOrder
+p10-ordered = ordered (sheetNetlist p10) p10Order p10Places refl
+
+p10-judged : judge p10Bytes ≡ sheet p10
+unfolding numberAt pick size haltCount localCount signalOf naming emitting exiting haltAt localAt trapAt ofKind headOfKind inside andThen parts readStmt
+    ended rootRead afterOutputs afterInputs readSheet K R hasHalts orElse instant climbs firstFault twice orAt andAt butnotAt orRow pairs highest
+    parallelRow build buildHalt buildEmit buildSequence buildLoop buildPresent buildWatching buildParallel buildTrap netlist rootOf inputCells signalCells
+    unless roomy judged judge
+p10-judged = refl
+
+pub p10-accepted : Accepted p10Bytes p10
+p10-accepted = accepted p10Order p10-judged p10-ordered
+
+-- over any events of its two inputs program and netlist of P10 go through the same outputs and states
+pub p10-agrees : (events : List ℕ) → EventWords 2 events → WordRun p10 0 events
+p10-agrees = word-theorem p10-accepted

@@ -1,0 +1,16 @@
+pub mod Tests
+pub mod Derivatives
+pub mod Scopes
+pub mod Restarts
+pub mod Lives
+pub mod Courses
+pub mod Runs
+pub mod Forward
+pub mod Backward
+pub mod Reactions
+pub mod Faithfulness
+pub mod Finite
+pub mod Correctness
+pub mod Coding
+pub mod Promise
+pub mod Samples

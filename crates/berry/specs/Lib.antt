@@ -1,0 +1,4 @@
+pub mod Behaviour
+pub mod Haltsets
+pub mod Modules
+pub mod Programs

@@ -1,0 +1,5 @@
+pub mod Passing
+pub mod Judging
+pub mod Finishing
+pub mod Whole
+pub mod Unique

@@ -1,0 +1,89 @@
+// The whole check of a sheet: it is read, judged, built into a netlist, and its cells are put in an order. The first fault answers.
+use builder::NetlistBuilt;
+use number::Fault;
+use number::Refusal;
+use number::StmtNo;
+use order::Ordering;
+use sets::Found;
+use sheet::Counts;
+use sheet::SheetRead;
+ghost use Prim.Native.Nat.{_≤_};
+ghost use mathlib.Core.Path.{_≡_};
+ghost use lib.ListN.{length};
+ghost use Rattle.number.specs.Counts.{ofStmt};
+ghost use Rattle.number.specs.Refusals.{fault};
+ghost use Rattle.order.specs.Paths.{cellsOf, Closed};
+ghost use Rattle.compiler.specs.Compile.{SomeRead, JudgesRead, Searchable, Finishes, Lent, DidCompile};
+
+// How many of each a sheet has, and its cells; or the first fault.
+pub enum Compiled {
+    Program(Counts, u16),
+    Refused(Fault),
+}
+
+fn at_statement(refusal: Refusal, n: StmtNo) -> NetlistBuilt
+    ensures { λ r. ⌜ r ≡ NetlistBuilt.Refused (fault refusal (ofStmt n)) ⌝ }
+{
+    NetlistBuilt::Refused(Fault {
+        refusal,
+        place: n.number() as usize,
+    })
+}
+
+// INSTANT, TWICE and ROOM of the sheet with these rows and counts. Its sets and its cells go into their columns.
+fn judge(rows: &[u64], sets: &mut [u64], cells: &mut [u64], c: Counts) -> NetlistBuilt
+    requires { ⌜ SomeRead (now rows) c × (length (now rows) ≤ length (now sets)) × (256 ≤ length (now sets)) ⌝ }
+    ensures { λ r. ⌜ JudgesRead (now (rows .entry)) c r (now (sets .exit)) (now (cells .entry)) (now (cells .exit)) ⌝ }
+{
+    let root = StmtNo::new(0);
+    sets::fill(rows, sets, root);
+    match sets::first_instant(rows, sets, root) {
+        Found::At(n) => at_statement(Refusal::Instant, n),
+        Found::Clear => match sets::first_twice(rows, sets, root) {
+            Found::At(n) => at_statement(Refusal::Twice, n),
+            Found::Clear => builder::build_netlist(rows, sets, cells, c.inputs, c.signals),
+        },
+    }
+}
+
+// CYCLE, or the program with these counts and cells.
+fn ordered(
+    cells: &[u64],
+    marks: &mut [u8],
+    stack: &mut [u16],
+    order: &mut [u16],
+    c: Counts,
+) -> Compiled
+    requires { ⌜ Closed (cellsOf (now cells)) × Searchable (length (now cells)) (now marks) (now stack) (now order) ⌝ }
+    ensures { λ r. ⌜ Finishes (cellsOf (now (cells .entry))) c r (now (order .exit)) ⌝ }
+{
+    match order::order_cells(cells, marks, stack, order) {
+        Ordering::Found => Compiled::Program(c, cells.len() as u16),
+        Ordering::Cycle(x) => Compiled::Refused(Fault {
+            refusal: Refusal::Cycle,
+            place: x.number() as usize,
+        }),
+    }
+}
+
+// Checks a sheet and compiles it into the lent columns: rows, sets, cells and their order. `marks` and `stack` are for the search alone.
+pub fn compile(
+    s: &[u8],
+    rows: &mut [u64],
+    sets: &mut [u64],
+    cells: &mut [u64],
+    marks: &mut [u8],
+    stack: &mut [u16],
+    order: &mut [u16],
+) -> Compiled
+    requires { ⌜ Lent (now rows) (now sets) (now cells) (now marks) (now stack) (now order) ⌝ }
+    ensures { λ r. ⌜ DidCompile (now (s .entry)) r (now (rows .exit)) (now (sets .exit)) (now (cells .exit)) (now (order .exit)) ⌝ }
+{
+    match sheet::read_sheet(s, rows) {
+        SheetRead::Refused(f) => Compiled::Refused(f),
+        SheetRead::Read(c) => match judge(rows, sets, cells, c) {
+            NetlistBuilt::Refused(f) => Compiled::Refused(f),
+            NetlistBuilt::Cells(n) => ordered(&cells[..n as usize], marks, stack, order, c),
+        },
+    }
+}

@@ -1,0 +1,7 @@
+pub mod Judging
+pub mod Reading
+pub mod Standing
+pub mod Sound
+pub mod Whole
+pub mod ReadBack
+pub mod OfSheets

@@ -1,0 +1,4 @@
+pub mod File
+pub mod Judge
+pub mod Read
+pub mod Answer

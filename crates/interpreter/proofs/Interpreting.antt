@@ -1,0 +1,119 @@
+-- A sheet that was compiled can be asked whether a state fits and be run by the rules, and what comes out is its reaction.
+use mathlib.Core.Path.{_≡_, refl, sym, ap, _∙_, subst}
+use mathlib.Core.Bool.{Bool, true, false}
+use mathlib.Core.List.{List}
+use Prim.Native.Nat.{ℕ, _+_, _<_, _≤_}
+use native.Mathlib.Omega.{arith}
+use lib.ListN.{length}
+use Rattle.number.specs.declared.Fault.{Fault}
+use Rattle.number.specs.declared.Refusal.the-variants.{Event, State}
+use Rattle.number.specs.Counts.{stmtNo, haltNo}
+use Rattle.number.specs.Refusals.{fault}
+use Rattle.bits.specs.Bits.{has, signalsIn}
+use Rattle.sheet.specs.declared.Counts.{Counts}
+use Rattle.sheet.specs.Read.{Sheet, SheetOutcome, sheet, faulty}
+use Rattle.sheet.specs.Form.{Proper}
+use Rattle.sheet.specs.Answer.{countsOf}
+use Rattle.sheet.proofs.Notions.{proper-exits}
+use Rattle.sheet.proofs.ProperRead.{proper}
+use Rattle.sets.proofs.Bounds.{exits-low}
+use Rattle.rules.specs.declared.Reaction.{Reaction}
+use Rattle.rules.specs.States.{fits}
+use Rattle.rules.specs.Words.{Runnable, Whole, Fitted, Next}
+use Rattle.rules.proofs.Walks.{proper-words}
+use Rattle.builder.specs.Netlist.{sheetNetlist}
+use Rattle.run.specs.Words.{eventOk}
+use Rattle.compiler.specs.declared.Compiled.{Compiled}
+use Rattle.compiler.specs.declared.Compiled.the-variants.{Program, Refused as NotCompiled}
+use Rattle.compiler.specs.Check.{Checks, Accepted, accepted}
+use Rattle.compiler.specs.Compile.{Compiles, compiledOf, DidCompile}
+use Rattle.compiler.proofs.Passing.{judged-read}
+use Rattle.interpreter.specs.declared.Interpreted.{Interpreted}
+use Rattle.interpreter.specs.declared.Interpreted.the-variants.{Refused, Reacted}
+use Rattle.interpreter.specs.Settle.{Settling, AgreedAt}
+use Rattle.interpreter.specs.Interpret.{Moment, Reacts, event-refused, state-refused, reacted, Interprets, refused, accepted as was-accepted, ReadyAs, Ready, ReactsReady}
+
+-- an accepted sheet was read
+pub accepted-proper : {s : List ℕ} {w : Sheet} → Accepted s w → Proper (w .inputs) (w .outputs) (w .root)
+accepted-proper {s} {w} (accepted order judged ordered) = proper s w (judged-read judged .read)
+
+module _ {c : Counts} {cells : ℕ} {rows sets : List ℕ} {w : Sheet} (is : ReadyAs c cells rows sets w) where
+  pub ready-proper : Proper (w .inputs) (w .outputs) (w .root)
+  ready-proper = accepted-proper (is .accepts)
+
+  pub inputs-few : c .inputs < 64
+  inputs-few = rw (is .counts) (omega (arith, ready-proper .header))
+
+  unfoldable pub runnable : Runnable rows (stmtNo 0)
+  runnable = record { first = haltNo 0; stmt = w .root; holds = is .holds; words = proper-words ready-proper }
+
+  pub whole : Whole rows sets
+  unfolding runnable
+  whole =
+      record {
+        known = record { run = runnable; low = exits-low 0 (w .root) (omega arith) (proper-exits ready-proper); kept = is .kept };
+        from-zero = refl;
+      }
+
+  -- the event was judged by the sheet's own number of inputs
+  pub own-event : (event : ℕ) {ok answer : Bool} → ok ≡ eventOk (c .inputs) event → ok ≡ answer → eventOk (w .inputs) event ≡ answer
+  own-event event asked answered = rw (ap (λ (k : Counts). k .inputs) (sym (is .counts))) (sym asked ∙ answered)
+
+module _ {c : Counts} {cells : ℕ} {rows sets : List ℕ} {state event : ℕ} {ok : Bool} (asked : ok ≡ eventOk (c .inputs) event) where
+  pub refuses-event : ok ≡ false → ReactsReady c cells rows sets state event (Refused (fault Event 0) state)
+  refuses-event no-event = record { reacts = λ w is. event-refused (own-event is event asked no-event) }
+
+  module _ {fit : Bool} (is-event : ok ≡ true) (fitted : Fitted rows state fit) where
+    pub refuses-state : fit ≡ false → ReactsReady c cells rows sets state event (Refused (fault State 0) state)
+    refuses-state unfit =
+        record { reacts = λ w is. state-refused (own-event is event asked is-event) (sym (fitted .answer (w .root) (is .holds)) ∙ unfit) }
+
+    pub reacts-here : {r : Reaction} {next : ℕ} → fit ≡ true → AgreedAt rows state event r → Next r next
+        → ReactsReady c cells rows sets state event (Reacted c cells (r .emits) next)
+    reacts-here {r} {next} fitting agreed after =
+        record {
+          reacts = λ w is.
+              let a = agreed .agreed (haltNo 0) (w .root) (is .holds) in
+              let moment : Moment (w .root) state event (r .emits) next =
+              record { present = a .present; agrees = a .agrees; emits = a .means .emits; keeps = after .state _ (a .means) } in
+              rw (is .counts, is .count) (reacted (own-event is event asked is-event) (sym (fitted .answer (w .root) (is .holds)) ∙ fitting) moment);
+        }
+
+-- the compiler's answer: a fault ..
+compiled-refused : (o : SheetOutcome) {f : Fault} → NotCompiled f ≡ compiledOf o → o ≡ faulty f
+unfolding compiledOf
+compiled-refused (faulty g) e = cc
+compiled-refused (sheet w) e = let z : _≡_ {A = ℕ} 0 1 = cc in absurd (omega arith)
+
+pub was-refused : {s rows sets cells order : List ℕ} {r : Compiled} {f : Fault} → DidCompile s r rows sets cells order → r ≡ NotCompiled f
+    → Checks s (faulty f)
+was-refused {s} did e = subst (Checks s) (compiled-refused (did .outcome) (sym e ∙ did .answer)) (did .checks)
+
+-- .. or a sheet with what the columns hold of it
+pub record Compiled-as (s : List ℕ) (c : Counts) (n : ℕ) (rows sets cells order : List ℕ) : Type 0 where
+  pub read : Sheet
+  pub accepts : Accepted s read
+  pub is : ReadyAs c n rows sets read
+  pub own : Compiles read rows sets cells order
+
+module _ {s rows sets cells order : List ℕ} {c : Counts} {n : ℕ} where
+  compiled : (o : SheetOutcome) → Checks s o → Program c n ≡ compiledOf o → ((w : Sheet) → o ≡ sheet w → Compiles w rows sets cells order)
+      → Compiled-as s c n rows sets cells order
+  unfolding compiledOf
+  compiled (faulty f) checks e columns = let z : _≡_ {A = ℕ} 0 1 = cc in absurd (omega arith)
+  compiled (sheet w) checks e columns =
+      let own = columns w refl in
+      record {
+        read = w;
+        accepts = checks;
+        is = record { bytes = s; accepts = checks; counts = cc; count = cc; holds = own .holds; kept = own .kept };
+        own = own;
+      }
+
+pub was-compiled : {s rows sets cells order : List ℕ} {c : Counts} {n : ℕ} {r : Compiled} → DidCompile s r rows sets cells order → r ≡ Program c n
+    → Compiled-as s c n rows sets cells order
+was-compiled did e = compiled (did .outcome) (did .checks) (sym e ∙ did .answer) (did .columns)
+
+pub interprets : {s rows sets cells order : List ℕ} {c : Counts} {n state event : ℕ} {r : Interpreted} (a : Compiled-as s c n rows sets cells order)
+    → ReactsReady c n rows sets state event r → Interprets s state event r
+interprets a did = was-accepted (a .accepts) (did .reacts (a .read) (a .is))

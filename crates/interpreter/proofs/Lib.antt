@@ -1,0 +1,4 @@
+pub mod Settled
+pub mod Interpreting
+pub mod Ready
+pub mod Alone

@@ -1,0 +1,91 @@
+-- The loop that applies the rules: its word E is what the rounds make, and where they repeat it agrees with the rules.
+use mathlib.Core.Path.{_≡_, refl, sym, ap, _∙_, subst, fun-ext}
+use mathlib.Core.Bool.{Bool, true, false, _||_}
+use mathlib.Core.List.{List}
+use Prim.Native.Nat.{ℕ, zero, suc, _+_, _-_, _<_, _≤_}
+use native.Mathlib.Omega.{arith}
+use native.Mathlib.Decide.{decLt}
+use lib.Dec.{eqb}
+use Rattle.number.specs.declared.HaltNo.{HaltNo}
+use Rattle.number.specs.declared.SignalNo.{SignalNo}
+use Rattle.number.specs.Counts.{signalNo, ofSignal}
+use Rattle.bits.specs.Bits.{has, signalsIn}
+use Rattle.bits.proofs.Laws.{ext}
+use Rattle.sheet.specs.Stmt.{Stmt}
+use Rattle.sheet.specs.Read.{only}
+use Rattle.sheet.specs.Rows.{Holds}
+use Rattle.rules.specs.declared.Reaction.{Reaction}
+use Rattle.rules.specs.Rules.{Signals}
+use Rattle.rules.specs.States.{State, tick, react, Agrees}
+use Rattle.rules.specs.Words.{Means, Reacted, root}
+use Rattle.agreement.specs.Rounds.{renewed, rounds}
+use Rattle.interpreter.specs.Settle.{Settling, Agreed, AgreedAt}
+
+or-swap : (a b : Bool) → (a || b) ≡ (b || a)
+or-swap true true = refl
+or-swap true false = refl
+or-swap false true = refl
+or-swap false false = refl
+
+-- the word e is what so many rounds make, at most as many as it takes
+pub record Reached {rows : List ℕ} {state event : ℕ} (p : Settling rows state event) (e round : ℕ) : Type 0 where
+  pub within : round ≤ p .limit
+  pub is : (s : SignalNo) → signalsIn e s ≡ rounds (signalsIn event) (has state) (p .run .stmt) round s
+
+-- the words of a round: tick was added to the event, and the emissions were joined to that
+pub record Given (event given : ℕ) : Type 0 where
+  pub adds : (j : ℕ) → has given j ≡ (has event j || eqb j 0)
+
+pub record Joined (given emits next : ℕ) : Type 0 where
+  pub joins : (j : ℕ) → has next j ≡ (has given j || has emits j)
+
+module _ {event given : ℕ} (g : Given event given) where
+  -- "tick, the event's inputs"
+  given-is : (s : SignalNo) → signalsIn given s ≡ (only tick s || signalsIn event s)
+  given-is s = g .adds (ofSignal s) ∙ or-swap (has event (ofSignal s)) (eqb (ofSignal s) 0)
+
+  pub reached-first : {rows : List ℕ} {state : ℕ} (p : Settling rows state event) → Reached p given 0
+  unfolding rounds
+  reached-first p = record { within = omega arith; is = given-is }
+
+  module _ {rows : List ℕ} {state e next : ℕ} {r : Reaction} (reacts : Reacted rows e state r)
+      (j : Joined given (r .emits) next) where
+    -- one round: "and the emissions"
+    renewed-is : (a : HaltNo) (t : Stmt) → Holds rows root a t → (s : SignalNo) → signalsIn next s ≡ renewed (signalsIn event) (has state) t (signalsIn e) s
+    renewed-is a t h s = rw (j .joins (ofSignal s), given-is s, reacts .means a t h .emits s)
+
+    -- E repeats: it agrees
+    pub agrees-here : next ≡ e → AgreedAt rows state event r
+    agrees-here same =
+        record {
+          agreed = λ a t h. record {
+            present = signalsIn e;
+            agrees = λ s. ap (λ (w : ℕ). signalsIn w s) (sym same) ∙ renewed-is a t h s;
+            means = reacts .means a t h;
+          };
+        }
+
+    module _ (p : Settling rows state event) {round : ℕ} (here : Reached p e round) where
+      next-is : (s : SignalNo) → signalsIn next s ≡ rounds (signalsIn event) (has state) (p .run .stmt) (suc round) s
+      unfolding rounds
+      next-is s =
+          renewed-is (p .run .first) (p .run .stmt) (p .run .holds) s
+          ∙ ap (λ (E : Signals). renewed (signalsIn event) (has state) (p .run .stmt) E s) (fun-ext (here .is))
+
+      -- E has changed, so the rounds do not repeat yet
+      pub before-limit : (next ≡ e → ⊥) → round < p .limit
+      before-limit changed = go (decLt round (p .limit))
+        where
+          go : Dec (round < p .limit) → round < p .limit
+          go (yes h) = h
+          go (no h) =
+              let last : round ≡ p .limit = omega (arith, here .within) in
+              let E : ℕ → Signals = rounds (signalsIn event) (has state) (p .run .stmt) in
+              let repeats : (s : SignalNo) → E (suc round) s ≡ E round s =
+              rw last (p .repeats) in
+              absurd (changed (ext next e (λ k. next-is (signalNo k) ∙ repeats (signalNo k) ∙ sym (here .is (signalNo k)))))
+
+      pub reached-next : (next ≡ e → ⊥) → Reached p next (round + 1)
+      reached-next changed =
+          let more : round + 1 ≡ suc round = omega arith in
+          record { within = omega (arith, before-limit changed); is = rw more next-is }

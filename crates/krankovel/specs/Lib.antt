@@ -1,0 +1,4 @@
+pub mod Answers
+pub mod Sheets
+pub mod Files
+pub mod Netlists

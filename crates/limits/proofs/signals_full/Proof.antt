@@ -1,0 +1,13 @@
+-- The test is on the number that `number` answers.
+use borrow.Author.Needs.{needs}
+use Rattle.limits.proofs.signals_full.Statement.{statement}
+use Rattle.limits.proofs.signals_full.Tie as tie
+
+number-requires : tie.Need-number-requires
+number-requires c κs = search needs
+
+returns : tie.Need-returns
+returns c = rw (c .number .ensures)
+
+pub signals-full-spec : {M : Type 1} → statement M
+signals-full-spec = tie.close (tie.spec number-requires returns)
