@@ -50,7 +50,7 @@ right-off : (a b : Bool) → b ≡ false → (a && b) ≡ false
 right-off = taut 2 1 _ _ _ tt
 
 -- what is shown only where g holds need be the same only there
-same-where : (g a b : Bool) → (g ≡ true → a ≡ b) → (g && a) ≡ (g && b)
+pub same-where : (g a b : Bool) → (g ≡ true → a ≡ b) → (g && a) ≡ (g && b)
 same-where true a b f = f refl
 same-where false a b f = refl
 

@@ -6,6 +6,7 @@ use Prim.Native.Nat.{ℕ, _^_, _<_}
 use native.Mathlib.Omega.{arith}
 use Rattle.bits.specs.Bits.{has}
 use Rattle.bits.proofs.Laws.{empty}
+use Rattle.sheet.specs.Stmt.{Stmt}
 use Rattle.sheet.specs.Read.{Sheet}
 use Rattle.rules.specs.States.{State, fresh, fits}
 use Rattle.rules.proofs.Again.{fits-fresh}
@@ -63,6 +64,13 @@ run-none w state = record { clocks = []; rules = tt; alone = alone; netlist = tt
     single [] h = refl
     single (a ∷ cs) h = absurd h
 
+-- "Fresh is 0.", and it fits every statement
+pub fresh-fits : (t : Stmt) → fits (has 0) t ≡ true
+fresh-fits t = subst (λ (S : State). fits S t ≡ true) (λ i b. nothing b i) (fits-fresh t)
+  where
+    nothing : (b : ℕ) → fresh b ≡ has 0 b
+    nothing b = sym (empty b)
+
 module _ {bytes : List ℕ} {w : Sheet} (accepted : Accepted bytes w) where
   -- a run from any state that fits, over any list of events
   pub word-run : (events : List ℕ) (state : ℕ) → state < 2 ^ 64 → fits (has state) (w .root) ≡ true → EventWords (w .inputs) events → WordRun w state events
@@ -72,12 +80,6 @@ module _ {bytes : List ℕ} {w : Sheet} (accepted : Accepted bytes w) where
       let r : WordReaction w state e = word-reaction accepted state small fit e (own .0) in
       run-more w state e es r (word-run es (r .next) (r .small) (r .again) (own .1))
 
-  -- .. and from fresh: "Fresh is 0."
+  -- .. and from fresh
   pub word-theorem : (events : List ℕ) → EventWords (w .inputs) events → WordRun w 0 events
-  word-theorem events own = word-run events 0 (omega arith) fresh-fits own
-    where
-      fresh-fits : fits (has 0) (w .root) ≡ true
-      fresh-fits = subst (λ (S : State). fits S (w .root) ≡ true) (λ i b. nothing b i) (fits-fresh (w .root))
-        where
-          nothing : (b : ℕ) → fresh b ≡ has 0 b
-          nothing b = sym (empty b)
+  word-theorem events own = word-run events 0 (omega arith) (fresh-fits (w .root)) own

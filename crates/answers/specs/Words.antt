@@ -1,33 +1,10 @@
--- The words of a question: where one ends, and those that are numbers.
-use Prim.Native.Nat.{ℕ, suc, _+_, _*_, _-_, min}
+-- The words of a question.
+use Prim.Native.Nat.{ℕ, suc}
 use mathlib.Core.Bool.{cond}
 use mathlib.Core.List.{List, [], _∷_}
-use lib.Dec.{leb, ltb, eqb}
-use lib.ListN.{length}
-use Rattle.answers.specs.declared.words.Value.{Value}
-use Rattle.answers.specs.declared.words.Value.the-variants.{Is, Bad}
+use lib.Dec.{eqb}
 
 -- where the first word ends: at the first blank, or at the end of the text
 unfoldable pub wordEnd : List ℕ → ℕ
 wordEnd [] = 0
 wordEnd (b ∷ bs) = cond (eqb b 32) 0 (suc (wordEnd bs))
-
--- what a digit is worth, "of either case"; 16 for any other byte
-unfoldable pub digitOf : ℕ → ℕ
-digitOf b =
-    cond (ltb b 48) 16 (cond (ltb b 58) (b - 48)
-    (cond (ltb b 65) 16 (cond (ltb b 71) (b - 55)
-    (cond (ltb b 97) 16 (cond (ltb b 103) (b - 87) 16)))))
-
--- a digit more, or the largest word
-unfoldable pub withDigit : ℕ → ℕ → ℕ → ℕ
-withDigit base v d = min (v * base + d) 18446744073709551615
-
--- v with the digits of a text behind it, "leading zeros read"
-unfoldable pub valueFrom : ℕ → ℕ → List ℕ → Value
-valueFrom base v [] = Is v
-valueFrom base v (b ∷ bs) = cond (ltb (digitOf b) base) (valueFrom base (withDigit base v (digitOf b)) bs) Bad
-
--- one digit up to so many: "STATE and EVENT are 1 to 16 hex digits", "LENGTH is 1 to 20 decimal digits"
-unfoldable pub valueOf : ℕ → ℕ → List ℕ → Value
-valueOf base most text = cond (ltb 0 (length text)) (cond (leb (length text) most) (valueFrom base 0 text) Bad) Bad

@@ -1,11 +1,10 @@
 // Answers questions, a line each, on standard output, a line each. A line that is no question answers `bad line`.
-mod input;
 mod output;
 mod questions;
 mod words;
 
-use input::Window;
 use libc::STDIN_FILENO;
+use lines::Window;
 
 // The longest question, and one more.
 const LINE: usize = 16385;
@@ -19,7 +18,7 @@ struct After {
 // Reads and answers one line.
 fn turn(chunk: &mut [u8], window: Window) -> After {
     let mut buffer = [0u8; 16385];
-    let line = input::read_line(STDIN_FILENO, chunk, window, &mut buffer);
+    let line = lines::read_line(STDIN_FILENO, chunk, window, &mut buffer);
     let n = line.len;
     let rest = line.window;
     if line.last && n == 0 {

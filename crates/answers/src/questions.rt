@@ -1,12 +1,12 @@
 // The questions. A line is the question's word, then the words it asks about, one blank between them.
 use crate::output;
 use crate::words;
-use crate::words::Value;
+use digits::Value;
 ghost use Rattle.io.specs.Counts.{Counts};
 
 // rest STATE
 fn answer_rest(state: &[u8]) {
-    let Value::Is(s) = words::hex_value(state) else {
+    let Value::Is(s) = digits::hex_value(state) else {
         output::bad_line();
         return;
     };
@@ -32,7 +32,7 @@ fn answer_bytes(word: &[u8], bytes: &[u8]) {
 
 // fits HEX STATE
 fn answer_fits(bytes: &[u8], state: &[u8]) {
-    let Value::Is(s) = words::hex_value(state) else {
+    let Value::Is(s) = digits::hex_value(state) else {
         output::bad_line();
         return;
     };
@@ -62,7 +62,7 @@ fn write_file(bytes: &[u8], length: u64, buffer: &mut [u8]) {
 
 // write HEX LENGTH
 fn answer_write(bytes: &[u8], length: &[u8]) {
-    let Value::Is(n) = words::decimal_value(length) else {
+    let Value::Is(n) = digits::decimal_value(length) else {
         output::bad_line();
         return;
     };
@@ -72,11 +72,11 @@ fn answer_write(bytes: &[u8], length: &[u8]) {
 
 // react HEX STATE EVENT, reactfile HEX STATE EVENT
 fn answer_reaction(word: &[u8], bytes: &[u8], state: &[u8], event: &[u8]) {
-    let Value::Is(s) = words::hex_value(state) else {
+    let Value::Is(s) = digits::hex_value(state) else {
         output::bad_line();
         return;
     };
-    let Value::Is(e) = words::hex_value(event) else {
+    let Value::Is(e) = digits::hex_value(event) else {
         output::bad_line();
         return;
     };

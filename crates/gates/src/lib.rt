@@ -65,7 +65,7 @@ pub fn word_of(c: Cell) -> u64
 }
 
 // The cell of a word.
-fn cell_in(w: u64) -> Cell
+pub fn cell_in(w: u64) -> Cell
     ensures { λ r. ⌜ r ≡ cellIn w ⌝ }
 {
     let first = (w / 8 % 65536) as u16;

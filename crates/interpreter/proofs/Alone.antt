@@ -1,5 +1,5 @@
 -- The interpreter's answer is determined: exactly one set of signals agrees, so there is one moment.
-use mathlib.Core.Path.{_≡_, refl, sym, ap, _∙_, fun-ext}
+use mathlib.Core.Path.{_≡_, refl, sym, ap, _∙_, subst, fun-ext}
 use mathlib.Core.Bool.{Bool, true}
 use mathlib.Core.List.{List}
 use Prim.Native.Nat.{ℕ}
@@ -8,7 +8,7 @@ use Rattle.bits.specs.Bits.{has, signalsIn}
 use Rattle.bits.proofs.Laws.{ext}
 use Rattle.sheet.specs.Read.{Sheet}
 use Rattle.rules.specs.Rules.{Signals}
-use Rattle.rules.specs.States.{react, nextState, fits}
+use Rattle.rules.specs.States.{State, react, nextState, fits}
 use Rattle.run.specs.Words.{eventOk}
 use Rattle.compiler.specs.Check.{Accepted}
 use Rattle.agreement.specs.Demand.{Reaction}
@@ -33,3 +33,13 @@ one-moment {w = w} {state} {event} {emissions} {next} {emissions′} {next′} o
       emissions-same = ext emissions emissions′ (λ j. m .emits (signalNo j) ∙ ap (λ (E : Signals). emits E j) same ∙ sym (m′ .emits (signalNo j)));
       next-same = ext next next′ (λ b. m .keeps b ∙ ap (λ (E : Signals). keeps E b) same ∙ sym (m′ .keeps b));
     }
+
+-- the next state fits again, so that the next event can follow
+pub fits-again : {s : List ℕ} {w : Sheet} {state event emissions next : ℕ} → Accepted s w → eventOk (w .inputs) event ≡ true
+    → fits (has state) (w .root) ≡ true → Moment (w .root) state event emissions next → fits (has next) (w .root) ≡ true
+fits-again {w = w} {state} {event} {next = next} ok is-event fit m =
+    let r : Reaction w (signalsIn event) (has state) = reaction ok (signalsIn event) (has state) fit (event-of (w .inputs) event is-event) in
+    let same : r .present ≡ m .present = fun-ext (λ s. sym (r .alone (m .present) (m .agrees) s)) in
+    let after : has next ≡ nextState (react (r .present) (has state) (w .root)) =
+    fun-ext (m .keeps) ∙ ap (λ (E : Signals). nextState (react E (has state) (w .root))) (sym same) in
+    subst (λ (S : State). fits S (w .root) ≡ true) (sym after) (r .again)

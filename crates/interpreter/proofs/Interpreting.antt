@@ -6,12 +6,15 @@ use Prim.Native.Nat.{ℕ, _+_, _<_, _≤_}
 use native.Mathlib.Omega.{arith}
 use lib.ListN.{length}
 use Rattle.number.specs.declared.Fault.{Fault}
+use Rattle.number.specs.declared.HaltNo.{HaltNo}
 use Rattle.number.specs.declared.Refusal.the-variants.{Event, State}
 use Rattle.number.specs.Counts.{stmtNo, haltNo}
 use Rattle.number.specs.Refusals.{fault}
 use Rattle.bits.specs.Bits.{has, signalsIn}
 use Rattle.sheet.specs.declared.Counts.{Counts}
 use Rattle.sheet.specs.Read.{Sheet, SheetOutcome, sheet, faulty}
+use Rattle.sheet.specs.Stmt.{Stmt}
+use Rattle.sheet.specs.Rows.{Holds}
 use Rattle.sheet.specs.Form.{Proper}
 use Rattle.sheet.specs.Answer.{countsOf}
 use Rattle.sheet.proofs.Notions.{proper-exits}
@@ -19,7 +22,7 @@ use Rattle.sheet.proofs.ProperRead.{proper}
 use Rattle.sets.proofs.Bounds.{exits-low}
 use Rattle.rules.specs.declared.Reaction.{Reaction}
 use Rattle.rules.specs.States.{fits}
-use Rattle.rules.specs.Words.{Runnable, Whole, Fitted, Next}
+use Rattle.rules.specs.Words.{Runnable, Whole, Fitted, Next, root}
 use Rattle.rules.proofs.Walks.{proper-words}
 use Rattle.builder.specs.Netlist.{sheetNetlist}
 use Rattle.run.specs.Words.{eventOk}
@@ -59,6 +62,13 @@ module _ {c : Counts} {cells : ℕ} {rows sets : List ℕ} {w : Sheet} (is : Rea
   pub own-event : (event : ℕ) {ok answer : Bool} → ok ≡ eventOk (c .inputs) event → ok ≡ answer → eventOk (w .inputs) event ≡ answer
   own-event event asked answered = rw (ap (λ (k : Counts). k .inputs) (sym (is .counts))) (sym asked ∙ answered)
 
+-- the reaction under the E that agrees, and the state after it, are a moment of the statement in the rows
+pub moment-at : {rows : List ℕ} {state event next : ℕ} {r : Reaction} (a : HaltNo) (t : Stmt) → AgreedAt rows state event r → Next r next
+    → Holds rows root a t → Moment t state event (r .emits) next
+moment-at a t agreed after holds =
+    let here = agreed .agreed a t holds in
+    record { present = here .present; agrees = here .agrees; emits = here .means .emits; keeps = after .state _ (here .means) }
+
 module _ {c : Counts} {cells : ℕ} {rows sets : List ℕ} {state event : ℕ} {ok : Bool} (asked : ok ≡ eventOk (c .inputs) event) where
   pub refuses-event : ok ≡ false → ReactsReady c cells rows sets state event (Refused (fault Event 0) state)
   refuses-event no-event = record { reacts = λ w is. event-refused (own-event is event asked no-event) }
@@ -73,10 +83,8 @@ module _ {c : Counts} {cells : ℕ} {rows sets : List ℕ} {state event : ℕ} {
     reacts-here {r} {next} fitting agreed after =
         record {
           reacts = λ w is.
-              let a = agreed .agreed (haltNo 0) (w .root) (is .holds) in
-              let moment : Moment (w .root) state event (r .emits) next =
-              record { present = a .present; agrees = a .agrees; emits = a .means .emits; keeps = after .state _ (a .means) } in
-              rw (is .counts, is .count) (reacted (own-event is event asked is-event) (sym (fitted .answer (w .root) (is .holds)) ∙ fitting) moment);
+              let fit : fits (has state) (w .root) ≡ true = sym (fitted .answer (w .root) (is .holds)) ∙ fitting in
+              rw (is .counts, is .count) (reacted (own-event is event asked is-event) fit (moment-at (haltNo 0) (w .root) agreed after (is .holds)));
         }
 
 -- the compiler's answer: a fault ..

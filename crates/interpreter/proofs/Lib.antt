@@ -1,4 +1,6 @@
+pub mod Asking
 pub mod Settled
 pub mod Interpreting
 pub mod Ready
 pub mod Alone
+pub mod Following

@@ -1,8 +1,8 @@
--- The loop that applies the rules: its word E is what the rounds make, and where they repeat it agrees with the rules.
-use mathlib.Core.Path.{_≡_, refl, sym, ap, _∙_, subst, fun-ext}
+-- The loop that applies the rules: its word E is what the rounds make, and where nothing changes that is asked for the next one agrees with the rules.
+use mathlib.Core.Path.{_≡_, refl, sym, ap, _∙_, fun-ext}
 use mathlib.Core.Bool.{Bool, true, false, _||_}
 use mathlib.Core.List.{List}
-use Prim.Native.Nat.{ℕ, zero, suc, _+_, _-_, _<_, _≤_}
+use Prim.Native.Nat.{ℕ, suc, _+_, _<_, _≤_}
 use native.Mathlib.Omega.{arith}
 use native.Mathlib.Decide.{decLt}
 use lib.Dec.{eqb}
@@ -15,11 +15,13 @@ use Rattle.sheet.specs.Stmt.{Stmt}
 use Rattle.sheet.specs.Read.{only}
 use Rattle.sheet.specs.Rows.{Holds}
 use Rattle.rules.specs.declared.Reaction.{Reaction}
-use Rattle.rules.specs.Rules.{Signals}
-use Rattle.rules.specs.States.{State, tick, react, Agrees}
-use Rattle.rules.specs.Words.{Means, Reacted, root}
+use Rattle.rules.specs.Rules.{Signals, Outcome}
+use Rattle.rules.specs.States.{tick, react}
+use Rattle.rules.specs.Words.{Reacted, root}
 use Rattle.agreement.specs.Rounds.{renewed, rounds}
 use Rattle.interpreter.specs.Settle.{Settling, Agreed, AgreedAt}
+use Rattle.interpreter.specs.Tested.{Tested, SameAt}
+use Rattle.interpreter.proofs.Asking.{alike-words, same-react}
 
 or-swap : (a b : Bool) → (a || b) ≡ (b || a)
 or-swap true true = refl
@@ -54,16 +56,20 @@ module _ {event given : ℕ} (g : Given event given) where
     renewed-is : (a : HaltNo) (t : Stmt) → Holds rows root a t → (s : SignalNo) → signalsIn next s ≡ renewed (signalsIn event) (has state) t (signalsIn e) s
     renewed-is a t h s = rw (j .joins (ofSignal s), given-is s, reacts .means a t h .emits s)
 
-    -- E repeats: it agrees
-    pub agrees-here : next ≡ e → AgreedAt rows state event r
-    agrees-here same =
-        record {
-          agreed = λ a t h. record {
-            present = signalsIn e;
-            agrees = λ s. ap (λ (w : ℕ). signalsIn w s) (sym same) ∙ renewed-is a t h s;
-            means = reacts .means a t h;
-          };
-        }
+    -- nothing that the program asks for has changed: the renewed E agrees
+    pub agrees-here : {w : ℕ} {b : Bool} → Tested rows root w → SameAt w next e b → b ≡ true → AgreedAt rows state event r
+    agrees-here c k same = record { agreed = agreed }
+      where
+        agreed : (a : HaltNo) (t : Stmt) → Holds rows root a t → Agreed t state event r
+        agreed a t h =
+            let alike = alike-words k same t (c .tested a t h) in
+            let reaction : react (signalsIn next) (has state) t ≡ react (signalsIn e) (has state) t =
+            same-react (signalsIn next) (signalsIn e) (has state) t alike in
+            record {
+              present = signalsIn next;
+              agrees = λ s. renewed-is a t h s ∙ ap (λ (o : Outcome). (only tick s || signalsIn event s) || o .emits s) (sym reaction);
+              means = rw reaction (reacts .means a t h);
+            }
 
     module _ (p : Settling rows state event) {round : ℕ} (here : Reached p e round) where
       next-is : (s : SignalNo) → signalsIn next s ≡ rounds (signalsIn event) (has state) (p .run .stmt) (suc round) s

@@ -1,2 +1,4 @@
+pub mod Tested
 pub mod Interpret
 pub mod Settle
+pub mod Many

@@ -1,4 +1,4 @@
--- The rules applied round by round until E repeats, on words.
+-- The rules applied round by round, on words.
 use mathlib.Core.Path.{_≡_}
 use mathlib.Core.List.{List}
 use Prim.Native.Nat.{ℕ, suc, _<_}

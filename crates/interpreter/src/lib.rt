@@ -1,18 +1,27 @@
-// The reaction of a sheet by the rules. E is made anew of tick, the inputs and the emissions until it repeats; the netlist is not run.
+// The reaction of a sheet by the rules. E is made anew of tick, the inputs and the emissions until nothing changes that the sheet asks for; the netlist is not run.
 use compiler::Compiled;
 use number::Fault;
 use number::Refusal;
+use number::SignalNo;
+use number::StmtNo;
 use rules::Reaction;
+use sheet::Binary;
 use sheet::Counts;
+use sheet::Head;
+use sheet::Unary;
 ghost use mathlib.Core.Path.{_≡_};
 ghost use mathlib.Core.Bool.{_||_};
 ghost use Prim.Native.Nat.{ℕ};
 ghost use lib.Dec.{eqb};
 ghost use Rattle.bits.specs.Bits.{has};
 ghost use Rattle.number.specs.Refusals.{fault};
+ghost use Rattle.sheet.specs.Read.{only};
+ghost use Rattle.rules.specs.Words.{Runnable, root};
+ghost use Rattle.interpreter.specs.Tested.{asksOne, asksTwo, Covers, Tested, SameAt};
 ghost use Rattle.compiler.specs.Compile.{Lent};
 ghost use Rattle.interpreter.specs.Settle.{Settling, AgreedAt};
 ghost use Rattle.interpreter.specs.Interpret.{Interprets, Ready, ReactsReady};
+ghost use Rattle.interpreter.specs.Many.{Runs, RanRows};
 
 // The refusal and the state handed in; or the counts, the emissions and the next state.
 pub enum Interpreted {
@@ -23,9 +32,72 @@ pub enum Interpreted {
 // Tick, in every set of present signals.
 const TICK: u32 = 0;
 
-// The reaction under the one E that agrees with the rules. Emissions of an earlier round are dropped: keeping them could stop at a set that does not agree.
-pub fn agreed(rows: &[u64], state: u64, event: u64) -> Reaction
-    requires { ⌜ Settling (now rows) state event ⌝ }
+// Whether a and b are the same at what is in w.
+fn same_at(w: u64, a: u64, b: u64) -> bool
+    ensures { λ r. ⌜ SameAt w a b r ⌝ }
+{
+    a & w == b & w
+}
+
+// The signal x, if it has a bit in a word.
+fn asked(x: SignalNo) -> u64
+    ensures { λ r. ⌜ Covers r (only x) ⌝ }
+{
+    let k = x.number() as u32;
+    if 64 <= k {
+        return bits::EMPTY;
+    }
+    bits::add(bits::EMPTY, k)
+}
+
+fn asked_by_one(u: Unary) -> u64
+    ensures { λ r. ⌜ Covers r (asksOne u) ⌝ }
+{
+    match u {
+        Unary::Loop => bits::EMPTY,
+        Unary::Watching(s) => asked(s),
+        Unary::Trap => bits::EMPTY,
+        Unary::Signal(_) => bits::EMPTY,
+    }
+}
+
+fn asked_by_two(b: Binary) -> u64
+    ensures { λ r. ⌜ Covers r (asksTwo b) ⌝ }
+{
+    match b {
+        Binary::Sequence => bits::EMPTY,
+        Binary::Present(s) => asked(s),
+        Binary::Parallel => bits::EMPTY,
+    }
+}
+
+// The signals that statement n asks for.
+fn tested(rows: &[u64], n: StmtNo) -> u64
+    requires { ⌜ Runnable (now rows) n ⌝ }
+    ensures { λ r. ⌜ Tested (now (rows .entry)) n r ⌝ }
+{
+    let row = sheet::row_at(rows, n);
+    let head = row.head;
+    match head {
+        Head::Zero(_) => bits::EMPTY,
+        Head::One(u) => {
+            let p = tested(rows, sheet::first_part(n));
+            bits::join(asked_by_one(u), p)
+        }
+        Head::Two(b) => {
+            let first = sheet::first_part(n);
+            let p = tested(rows, first);
+            let left = sheet::row_at(rows, first);
+            let q = tested(rows, left.end);
+            bits::join(asked_by_two(b), bits::join(p, q))
+        }
+    }
+}
+
+// The reaction under the one E that agrees with the rules. `asks` has the signals that the sheet asks for: where a round changes none of them, another would do
+// the same. Emissions of an earlier round are dropped: keeping them could stop at a set that does not agree.
+pub fn agreed(rows: &[u64], asks: u64, state: u64, event: u64) -> Reaction
+    requires { ⌜ Settling (now rows) state event × Tested (now rows) root asks ⌝ }
     ensures { λ r. ⌜ AgreedAt (now (rows .entry)) state event r ⌝ }
 {
     let given = bits::add(event, TICK);
@@ -34,7 +106,7 @@ pub fn agreed(rows: &[u64], state: u64, event: u64) -> Reaction
     loop {
         let r = rules::react(rows, e, state);
         let renewed = bits::join(given, r.emits);
-        if renewed == e {
+        if same_at(asks, renewed, e) {
             return r;
         }
         e = renewed;
@@ -66,8 +138,35 @@ pub fn react(
     if !rules::fits(rows, sets, state) {
         return refused(Refusal::State, state);
     }
-    let r = agreed(rows, state, event);
+    let asks = tested(rows, StmtNo::new(0));
+    let r = agreed(rows, asks, state, event);
     Interpreted::Reacted(c, cells, r.emits, rules::next_state(r))
+}
+
+// A reaction to each event, each from the state after the one before. The emissions and the states go to the first places of the lent slices; the last state
+// comes back.
+pub fn moments(
+    rows: &[u64],
+    state: u64,
+    events: &[u64],
+    emissions: &mut [u64],
+    states: &mut [u64],
+) -> u64
+    requires { ⌜ Runs (now rows) state (now events) (now emissions) (now states) ⌝ }
+    ensures { λ r. ⌜ RanRows (now (rows .entry)) state (now (events .entry))
+        (now (emissions .entry)) (now (emissions .exit)) (now (states .entry)) (now (states .exit)) r ⌝ }
+{
+    let asks = tested(rows, StmtNo::new(0));
+    let mut last = state;
+    let mut j = 0;
+    while j < events.len() {
+        let r = agreed(rows, asks, last, events[j]);
+        emissions[j] = r.emits;
+        last = rules::next_state(r);
+        states[j] = last;
+        j += 1;
+    }
+    last
 }
 
 // The reaction of a sheet, compiled into the lent columns.

@@ -1,6 +1,6 @@
 -- What the checks of a netlist and its run answer makes the entries' answers.
 use mathlib.Core.Path.{_≡_, refl, sym, ap, _∙_, subst}
-use mathlib.Core.Bool.{Bool, true, false}
+use mathlib.Core.Bool.{Bool}
 use mathlib.Core.List.{List}
 use Prim.Native.Nat.{ℕ, _≤_}
 use native.Mathlib.Omega.{arith}
@@ -8,23 +8,26 @@ use lib.ListN.{length, take, length-map}
 use Rattle.number.specs.declared.Fault.{Fault}
 use Rattle.number.specs.Number.{pick}
 use Rattle.gates.specs.Store.{cellIn}
+use Rattle.gates.specs.Values.{registers}
 use Rattle.order.specs.Paths.{cellsOf}
 use Rattle.run.specs.declared.Reaction.{Reaction as Run}
 use Rattle.run.specs.declared.Reaction.the-variants.{Refused as RunRefused, Reacted as RunReacted}
-use Rattle.run.specs.React.{Reacts, event-refused, state-refused, reacted}
+use Rattle.run.proofs.Column.{cells-length}
+use Rattle.run.specs.React.{Clockable, Numberable, Numbers, Prepared, Reacts, event-refused, reacted, state-refused}
 use Rattle.files.specs.declared.FileRead.{FileRead}
 use Rattle.files.specs.declared.FileRead.the-variants.{Read, Refused}
 use Rattle.files.specs.declared.Header.{Header}
 use Rattle.files.specs.File.{Netlist}
 use Rattle.files.specs.Read.{FileOutcome, netlist, faulty, readFile}
-use Rattle.netlists.specs.Words.{netlistOf}
+use Rattle.files.specs.Answer.{headerOf}
+use Rattle.netlists.specs.Words.{netlistOf, judgeCells}
 use Rattle.netlists.specs.Check.{Checks, accepted}
 use Rattle.netlists.specs.Checked.{DidCheck, DidCheckFile}
 use Rattle.netlists.proofs.Checking.{answered-fault}
-use Rattle.netlists.proofs.Running.{Accepts, file, sound, count, file-cells, same-net}
-use Rattle.krankovel.specs.declared.Answer.{Answer}
+use Rattle.netlists.proofs.Words.{CellsRight, cells-right}
+use Rattle.netlists.proofs.Running.{Accepts, accepts, file, sound, count, file-cells, same-net, cells-prepared}
 use Rattle.krankovel.specs.declared.Reaction.{Reaction}
-use Rattle.krankovel.specs.Answers.{passes, verdict, answerOf, refusal, acceptance, withReaction}
+use Rattle.krankovel.specs.Answers.{verdict, answerOf, refusal, acceptance, withReaction}
 use Rattle.krankovel.specs.Netlists.{netVerdict, netAccepted, NetChecked, netEvent, netState, NetReacting, NetReacted, Clocked}
 
 -- a netlist's own fault
@@ -42,10 +45,10 @@ module _ {found : FileOutcome} {f : Fault} where
 
 -- a netlist that was accepted
 module _ {found : FileOutcome} {h : Header} {order : List ℕ} (a : Accepts found h order) where
-  abbrev net : Netlist
+  abbrev pub net : Netlist
   net = a .found-as .net
 
-  checks : Checks found (netlist net)
+  pub checks : Checks found (netlist net)
   checks = accepted order (a .found-as .is) (a .ordered)
 
   pub net-checked : NetChecked found (acceptance 0 (h .cells))
@@ -69,6 +72,55 @@ module _ (s : List ℕ) {h : Header} {column column′ order : List ℕ} (d : Di
       let inputs = ap (λ (k : Header). k .inputs) header in
       let outputs = ap (λ (k : Header). k .outputs) header in
       same-net inputs outputs (file-cells s d long places)
+
+-- the netlist that words mean, counted by its words
+pub words-answer : (I O : ℕ) (words : List ℕ) → acceptance 0 (length words) ≡ netAccepted (netlist (netlistOf I O words))
+unfolding netAccepted
+words-answer I O words = ap (acceptance 0) (sym (length-map words cellIn))
+
+-- of cells as words that were checked: the netlist that they mean was accepted, with its I, O and count
+module _ (I O : ℕ) (words : List ℕ) {h : Header} {order : List ℕ} (d : DidCheck (judgeCells I O words) (Read h) order) where
+  right : CellsRight I O words (accepts d .found-as .net)
+  right = cells-right I O words (accepts d .found-as .is)
+
+  pub words-checks : Checks (judgeCells I O words) (netlist (netlistOf I O words))
+  words-checks = rw (right .is) at (checks (accepts d))
+
+  header : h ≡ headerOf (netlistOf I O words)
+  header = accepts d .found-as .header ∙ ap headerOf (right .is)
+
+  pub words-count : h .cells ≡ length words
+  words-count = ap (λ (k : Header). k .cells) header ∙ length-map words cellIn
+
+  pub words-checked : NetChecked (judgeCells I O words) (acceptance 0 (length words))
+  words-checked = rw words-count at (net-checked (accepts d))
+
+  pub words-few : length words ≤ 1024
+  words-few = let few : length (cellsOf words) ≤ 1024 = rw (right .is) at (right .sound .few) in omega (arith, length-map words cellIn)
+
+  pub words-prepared : {values : List Bool} → 1024 ≤ length order → length values ≡ h .cells
+      → Prepared (h .inputs) (h .outputs) (cellsOf words) order values
+  words-prepared places each = rw header (cells-prepared I O words d places (each ∙ ap (λ (k : Header). k .cells) header))
+
+  pub words-are : netlistOf (h .inputs) (h .outputs) words ≡ accepts d .found-as .net
+  words-are = same-net (ap (λ (k : Header). k .inputs) header) (ap (λ (k : Header). k .outputs) header) refl ∙ sym (right .is)
+
+  pub words-reacted : {state event : ℕ} {r : Reaction} → Clocked (netlistOf (h .inputs) (h .outputs) words) state event r
+      → NetReacted (judgeCells I O words) state event r
+  words-reacted did = net-reacted (accepts d) (rw (header, sym (right .is)) at did)
+
+-- the columns for the registers suffice, and with them a clock has all that it takes
+module _ {I O : ℕ} (words : List ℕ) {order : List ℕ} {values : List Bool} (p : Prepared I O (cellsOf words) order values) {bits operands : List ℕ} where
+  pub numberable : length words ≤ 1024 → 1024 ≤ length bits → 64 ≤ length operands → Numberable (cellsOf words) bits operands
+  numberable few wide room =
+      record {
+        few = p .ready .judged .few;
+        places = omega (arith, cells-length words);
+        room = omega (arith, p .ready .judged .bits);
+      }
+
+  pub clockable : {k : ℕ} → Numbers (cellsOf words) bits operands k → Clockable I O (cellsOf words) order bits (take k operands) values
+  clockable n = record { prepared = p; numbered = n .numbered; feeds = n .feeds }
 
 -- one clock in the paper's numbers
 abbrev pub reactionOf : ℕ → Run → Reaction

@@ -1,5 +1,5 @@
--- Nothing else satisfies the description of an entry that writes a file or takes a netlist.
-use mathlib.Core.Path.{_≡_, refl, sym, ap, _∙_}
+-- Nothing else satisfies the description of an entry that writes into a lent slice or takes a netlist.
+use mathlib.Core.Path.{_≡_, refl, sym, _∙_}
 use mathlib.Core.Bool.{Bool, true, false}
 use mathlib.Core.List.{List}
 use Prim.Native.Nat.{ℕ}
@@ -13,21 +13,43 @@ use Rattle.netlists.specs.Check.{Checks, accepted}
 use Rattle.netlists.proofs.Checking as checking
 use Rattle.compiler.proofs.Unique.{one-check}
 use Rattle.krankovel.specs.declared.Answer.{Answer}
+use Rattle.krankovel.specs.declared.Listing.{Listing}
 use Rattle.krankovel.specs.declared.Reaction.{Reaction}
 use Rattle.krankovel.specs.Answers.{passes, verdict}
-use Rattle.krankovel.specs.Files.{Written}
+use Rattle.krankovel.specs.Files.{Filed, Written, NetWritten}
+use Rattle.krankovel.specs.Cells.{Handed, Listed, NetListed}
 use Rattle.krankovel.specs.Netlists.{netVerdict, NetChecked, netEvent, netState, NetReacting, NetReacted}
 
--- the answer and the buffer
-pub record SameWritten (r r′ : Answer) (buffer buffer′ : List ℕ) : Type 0 where
+-- the answer and what was lent
+pub record Same {A : Type 0} (r r′ : A) (lent lent′ : List ℕ) : Type 0 where
   pub answer : r ≡ r′
-  pub left : buffer ≡ buffer′
+  pub left : lent ≡ lent′
 
-pub one-written : (s : List ℕ) {r r′ : Answer} (buffer : List ℕ) {after after′ : List ℕ} → Written s r buffer after → Written s r′ buffer after′
-    → SameWritten r r′ after after′
-one-written s buffer a b =
-    let same = one-check s (a .checks) (b .checks) in
-    record { answer = a .answer ∙ rw same (sym (b .answer)); left = a .left ∙ rw same (sym (b .left)) }
+one-filed : {o : FileOutcome} {accepted r r′ : Answer} {buffer after after′ : List ℕ} → Filed o accepted r buffer after → Filed o accepted r′ buffer after′
+    → Same r r′ after after′
+one-filed a b = record { answer = a .answer ∙ sym (b .answer); left = a .left ∙ sym (b .left) }
+
+one-handed : {o : FileOutcome} {accepted : Answer} {r r′ : Listing} {words after after′ : List ℕ} → Handed o accepted r words after
+    → Handed o accepted r′ words after′ → Same r r′ after after′
+one-handed a b = record { answer = a .answer ∙ sym (b .answer); left = a .left ∙ sym (b .left) }
+
+-- of a sheet
+module _ (s : List ℕ) where
+  pub one-written : {r r′ : Answer} (buffer : List ℕ) {after after′ : List ℕ} → Written s r buffer after → Written s r′ buffer after′ → Same r r′ after after′
+  one-written buffer a b = one-filed (a .filed) (rw (one-check s (b .checks) (a .checks)) at (b .filed))
+
+  pub one-listed : {r r′ : Listing} (words : List ℕ) {after after′ : List ℕ} → Listed s r words after → Listed s r′ words after′ → Same r r′ after after′
+  one-listed words a b = one-handed (a .handed) (rw (one-check s (b .checks) (a .checks)) at (b .handed))
+
+-- of a netlist in either form
+module _ (found : FileOutcome) where
+  pub one-net-written : {r r′ : Answer} (buffer : List ℕ) {after after′ : List ℕ} → NetWritten found r buffer after → NetWritten found r′ buffer after′
+      → Same r r′ after after′
+  one-net-written buffer a b = one-filed (a .filed) (rw (checking.one-check (b .checks) (a .checks)) at (b .filed))
+
+  pub one-net-listed : {r r′ : Listing} (words : List ℕ) {after after′ : List ℕ} → NetListed found r words after → NetListed found r′ words after′
+      → Same r r′ after after′
+  one-net-listed words a b = one-handed (a .handed) (rw (checking.one-check (b .checks) (a .checks)) at (b .handed))
 
 pub one-net-checked : (found : FileOutcome) {r r′ : Answer} → NetChecked found r → NetChecked found r′ → r ≡ r′
 one-net-checked found a b = let same = checking.one-check (a .checks) (b .checks) in a .answer ∙ rw same (sym (b .answer))

@@ -1,5 +1,5 @@
 -- Nothing else satisfies the description: two answers of an entry to the same arguments are equal.
-use mathlib.Core.Path.{_≡_, refl, sym, ap, _∙_, subst}
+use mathlib.Core.Path.{_≡_, refl, sym, _∙_}
 use mathlib.Core.Bool.{Bool, true, false}
 use mathlib.Core.List.{List}
 use Prim.Native.Nat.{ℕ}
@@ -10,7 +10,7 @@ use Rattle.compiler.proofs.Unique.{one-check}
 use Rattle.interpreter.proofs.Alone.{SameMoment, one-moment}
 use Rattle.krankovel.specs.declared.Answer.{Answer}
 use Rattle.krankovel.specs.declared.Reaction.{Reaction}
-use Rattle.krankovel.specs.Answers.{Verdict, passes, stops, verdict}
+use Rattle.krankovel.specs.Answers.{passes, verdict}
 use Rattle.krankovel.specs.Sheets.{sheetVerdict, Checked, sheetFits, Fitting, sheetEvent, Reacting, Reacted}
 
 module _ (s : List ℕ) where

@@ -1,10 +1,9 @@
 -- What the compiler and the interpreter answer makes the entries' answers.
-use mathlib.Core.Path.{_≡_, refl, sym, ap, ap₂, _∙_}
+use mathlib.Core.Path.{_≡_, refl, sym, _∙_}
 use mathlib.Core.Bool.{Bool, true, false}
 use mathlib.Core.List.{List}
 use Prim.Native.Nat.{ℕ}
 use native.Mathlib.Omega.{arith}
-use lib.ListN.{length}
 use Rattle.number.specs.declared.Fault.{Fault}
 use Rattle.number.specs.declared.Refusal.the-variants.{State}
 use Rattle.number.specs.Number.{pick}
@@ -20,9 +19,7 @@ use Rattle.interpreter.specs.declared.Interpreted.{Interpreted}
 use Rattle.interpreter.specs.declared.Interpreted.the-variants.{Refused, Reacted as HasReacted}
 use Rattle.interpreter.specs.Interpret.{event-refused, state-refused, reacted, Interprets, refused, accepted}
 use Rattle.interpreter.proofs.Interpreting.{Compiled-as}
-use Rattle.krankovel.specs.declared.Answer.{Answer}
 use Rattle.krankovel.specs.declared.Reaction.{Reaction}
-use Rattle.krankovel.specs.declared.Reading.{Reading}
 use Rattle.krankovel.specs.Answers.{verdict, answerOf, refusal, acceptance, withReaction}
 use Rattle.krankovel.specs.Sheets.{readingOf, sheetVerdict, sheetAccepted, Checked, sheetFits, Fitting, sheetEvent, Reacting, Reacted}
 
@@ -51,7 +48,7 @@ module _ {s : List ℕ} {f : Fault} (was : Checks s (faulty f)) where
 
 -- an accepted sheet
 module _ {s rows sets cells order : List ℕ} {c : Counts} {n : ℕ} (a : Compiled-as s c n rows sets cells order) where
-  counts-are : acceptance (c .statements) n ≡ sheetAccepted (sheet (a .read))
+  pub counts-are : acceptance (c .statements) n ≡ sheetAccepted (sheet (a .read))
   unfolding sheetAccepted
   counts-are = rw (a .is .counts, a .is .count)
 

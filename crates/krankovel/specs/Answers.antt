@@ -6,6 +6,7 @@ use Rattle.number.specs.declared.Refusal.the-variants.{Event, State, Buffer}
 use Rattle.number.specs.Number.{pick}
 use Rattle.number.specs.Refusals.{refusalNo, fault}
 use Rattle.krankovel.specs.declared.Answer.{Answer}
+use Rattle.krankovel.specs.declared.Listing.{Listing}
 use Rattle.krankovel.specs.declared.Reaction.{Reaction}
 
 -- a fault that answers, or none
@@ -39,3 +40,8 @@ answerOf passes a = a
 abbrev pub withReaction : Answer → ℕ → ℕ → Reaction
 withReaction a signals state =
     record { number = a .number; place = a .place; statements = a .statements; cells = a .cells; signals = signals; state = state }
+
+-- an answer with the numbers of inputs and outputs of a netlist whose cells are handed out
+abbrev pub withSignals : Answer → ℕ → ℕ → Listing
+withSignals a inputs outputs =
+    record { number = a .number; place = a .place; statements = a .statements; cells = a .cells; inputs = inputs; outputs = outputs }

@@ -1,4 +1,7 @@
 pub mod Answers
 pub mod Sheets
-pub mod Files
 pub mod Netlists
+pub mod Files
+pub mod Cells
+pub mod Many
+pub mod EndToEnd

@@ -59,14 +59,13 @@ module _ {w : Netlist} (h : WellFormed w) where
       }
 
   -- and all that a clock asks for
-  pub prepared : {I O k : ℕ} {order : List ℕ} {values : List Bool} → I ≡ w .inputs → O ≡ w .outputs → k ≡ registers (w .cells)
-      → Ordered (w .cells) order → length (w .cells) ≤ length order → length values ≡ length (w .cells) → Prepared I O k (w .cells) order values
-  prepared i o counted ordered places long =
+  pub prepared : {I O : ℕ} {order : List ℕ} {values : List Bool} → I ≡ w .inputs → O ≡ w .outputs → Ordered (w .cells) order
+      → length (w .cells) ≤ length order → length values ≡ length (w .cells) → Prepared I O (w .cells) order values
+  prepared i o ordered places long =
       record {
         ready =
             record { judged = record { closed = closed; few = omega (arith, h .few); bits = h .bits; long = long }; ordered = ordered; places = places };
         signals = record { few = omega (arith, h .signals); enough = omega (arith, h .enough) };
-        counted = counted;
       }
 
 -- what was found before CYCLE, by what was answered

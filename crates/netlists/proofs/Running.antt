@@ -61,13 +61,12 @@ module _ (s : List ℕ) {h : Header} {column column′ order : List ℕ} (d : Di
   unfolding FileLaid
   file-cells = laid-cells sound column count (rw (file .found-as .is) at (d .laid)) long
 
-  pub file-prepared : {k : ℕ} {values : List Bool} → k ≡ registers (cellsOf (take (h .cells) column′)) → length values ≡ h .cells
-      → Prepared (h .inputs) (h .outputs) k (cellsOf (take (h .cells) column′)) order values
-  file-prepared {k} {values} counted each =
+  pub file-prepared : {values : List Bool} → length values ≡ h .cells
+      → Prepared (h .inputs) (h .outputs) (cellsOf (take (h .cells) column′)) order values
+  file-prepared {values} each =
       let header : h ≡ headerOf net = file .found-as .header in
-      let bits : k ≡ registers (net .cells) = counted ∙ ap registers file-cells in
       rw file-cells
-      (prepared sound (ap (λ (x : Header). x .inputs) header) (ap (λ (x : Header). x .outputs) header) bits (file .ordered)
+      (prepared sound (ap (λ (x : Header). x .inputs) header) (ap (λ (x : Header). x .outputs) header) (file .ordered)
       (omega (arith, sound .few)) (each ∙ count))
 
   -- it is well formed as words too, so that it can be written
@@ -85,14 +84,13 @@ module _ (I O : ℕ) (words : List ℕ) {h : Header} {order : List ℕ} (d : Did
   right : CellsRight I O words (cells .found-as .net)
   right = cells-right I O words (cells .found-as .is)
 
-  pub cells-prepared : {k : ℕ} {values : List Bool} → k ≡ registers (cellsOf words) → length values ≡ length (cellsOf words)
-      → Prepared I O k (cellsOf words) order values
-  cells-prepared {k} {values} counted each =
+  pub cells-prepared : {values : List Bool} → length values ≡ length (cellsOf words) → Prepared I O (cellsOf words) order values
+  cells-prepared {values} each =
       let w : Netlist = cells .found-as .net in
       let is : w ≡ netlistOf I O words = right .is in
       let same : w .cells ≡ cellsOf words = ap (λ (x : Netlist). x .cells) is in
-      let ready : Prepared I O k (w .cells) order values =
-      prepared (right .sound) (sym (ap (λ (x : Netlist). x .inputs) is)) (sym (ap (λ (x : Netlist). x .outputs) is)) (rw same counted) (cells .ordered)
+      let ready : Prepared I O (w .cells) order values =
+      prepared (right .sound) (sym (ap (λ (x : Netlist). x .inputs) is)) (sym (ap (λ (x : Netlist). x .outputs) is)) (cells .ordered)
       (omega (arith, right .sound .few)) (rw same each) in
       rw same at ready
 

@@ -18,13 +18,15 @@ use Rattle.sheet.specs.declared.Head.the-variants.{Zero, One, Two}
 use Rattle.sheet.specs.Stmt.{Stmt, leaf, one, two, haltCount}
 use Rattle.sheet.specs.Read.{further}
 use Rattle.sheet.specs.Rows.{haltsOn, rowAt, Holds}
-use Rattle.sheet.proofs.Walk.{is-leaf, is-one, is-two, holds-second}
+use Rattle.sheet.proofs.Walk.{IsOne, IsTwo, is-leaf, is-one, is-two, holds-second}
 use Rattle.rules.specs.declared.Reaction.{Reaction}
 use Rattle.rules.specs.Rules.{Signals, Halts, Outcome, idle, followed, beside, start, active, resume}
 use Rattle.rules.specs.States.{boot, react}
-use Rattle.rules.specs.Words.{haltsIn, Means, resumed, passed, cutOff, restarts, goesOn, isParallel, Started, Resumed, root, Reacted, Inside}
+use Rattle.rules.specs.Words.{haltsIn, Means, resumed, passed, cutOff, restarts, goesOn, isParallel, rightAlone, Runnable}
+use Rattle.rules.specs.Words.{Started, Resumed, root, Reacted, Inside}
 use Rattle.rules.proofs.Again.{only-right}
 use Rattle.rules.proofs.Meanings.{stopped-means}
+use Rattle.rules.proofs.Walks.{holds-one}
 
 resumed-on : (E : Signals) (H : Halts) (t : Stmt) → active H t ≡ true → resumed E H t ≡ resume E H t
 unfolding pick
@@ -74,11 +76,12 @@ passed-rule E H (Watching s) x p r cut again f m = rw cut (f (resume E H x) m)
 passed-rule E H Trap x p r cut again f m = f (resume E H x) m
 passed-rule E H (Signal s) x p r cut again f m = f (resume E H x) m
 
-right-rule : (E : Signals) (H : Halts) (b : Binary) (x y : Stmt) → isParallel b ≡ false → active H x ≡ false → resume E H (two b x y) ≡ resume E H y
+right-rule : (E : Signals) (H : Halts) (b : Binary) (x y : Stmt) → active H x ≡ false → active H y ≡ true
+    → resume E H (two b x y) ≡ rightAlone b (resume E H y)
 unfolding resume pick
-right-rule E H Sequence x y sides off = rw off
-right-rule E H (Present s) x y sides off = rw off
-right-rule E H Parallel x y sides off = absurd (true≢false sides)
+right-rule E H Sequence x y off on = rw off
+right-rule E H (Present s) x y off on = rw off
+right-rule E H Parallel x y off on = rw (off, on)
 
 goes-rule : (E : Signals) (H : Halts) (b : Binary) (x y : Stmt) (c : ℕ) → goesOn b c ≡ true → active H x ≡ true
     → resume E H (two b x y) ≡ followed (resume E H x) (start E y)
@@ -104,6 +107,50 @@ parallel-rule E H Parallel x y sides = refl
 right-active : (H : Halts) (b : Binary) (x y : Stmt) → active H (two b x y) ≡ true → active H x ≡ false → active H y ≡ true
 unfolding active
 right-active H b x y = only-right (active H x) (active H y)
+
+-- where the halt lies that lies in the statement
+module _ (rows : List ℕ) (n : StmtNo) (w : ℕ) (on : Inside rows n w true) where
+  -- the part has the halt that the statement has
+  pub inside-part : {u : Unary} → Runnable rows n → rowAt rows n .head ≡ One u → Inside rows (further n 1) w true
+  unfolding active
+  inside-part {u} run head = record { answer = answer }
+    where
+      k : IsOne rows n (run .first) (run .stmt) u
+      k = is-one rows n (run .first) (run .stmt) (run .holds) head
+
+      answer : (a : HaltNo) (t : Stmt) → Holds rows (further n 1) a t → true ≡ active (haltsIn w) t
+      answer a t h =
+          let same : t ≡ k .part = holds-one rows (further n 1) a (run .first) t (k .part) h (k .holds) in
+          let whole : active (haltsIn w) (one u (k .part)) ≡ true = rw (k .is) at (sym (on .answer (run .first) (run .stmt) (run .holds))) in
+          rw same (sym whole)
+
+  -- where the left part has none, the right one has it
+  pub inside-right : {b : Binary} → Runnable rows n → rowAt rows n .head ≡ Two b → Inside rows (further n 1) w false
+      → Inside rows (rowAt rows (further n 1) .end) w true
+  inside-right {b} run head off = record { answer = answer }
+    where
+      k : IsTwo rows n (run .first) (run .stmt) b
+      k = is-two rows n (run .first) (run .stmt) (run .holds) head
+
+      answer : (a : HaltNo) (t : Stmt) → Holds rows (rowAt rows (further n 1) .end) a t → true ≡ active (haltsIn w) t
+      answer a t h =
+          let second = holds-second rows n (run .first) k in
+          let same : t ≡ k .right = holds-one rows _ a (haltsOn (run .first) (haltCount (k .left))) t (k .right) h second in
+          let none : active (haltsIn w) (k .left) ≡ false = sym (off .answer (run .first) (k .left) (k .holds-left)) in
+          let whole : active (haltsIn w) (two b (k .left) (k .right)) ≡ true = rw (k .is) at (sym (on .answer (run .first) (run .stmt) (run .holds))) in
+          rw same (sym (right-active (haltsIn w) b (k .left) (k .right) whole none))
+
+-- the right side alone, of a parallel and of the others
+pub alone-beside : {q r : Reaction} (b : Binary) → isParallel b ≡ true → ((o : Outcome) → Means q o → Means r (beside idle o))
+    → (o : Outcome) → Means q o → Means r (rightAlone b o)
+alone-beside Sequence both f = absurd (false≢true both)
+alone-beside (Present s) both f = absurd (false≢true both)
+alone-beside Parallel both f = f
+
+pub alone-passed : {q : Reaction} (b : Binary) → isParallel b ≡ false → (o : Outcome) → Means q o → Means q (rightAlone b o)
+alone-passed Sequence sides o m = m
+alone-passed (Present s) sides o m = m
+alone-passed Parallel sides o m = absurd (true≢false sides)
 
 module _ (rows : List ℕ) (n : StmtNo) (e w : ℕ) where
   abbrev E : Signals
@@ -172,19 +219,21 @@ module _ (rows : List ℕ) (n : StmtNo) (e w : ℕ) where
                 let k = is-one rows n a t h head in
                 rw (k .is) (passed-rule E H u (k .part) p r cut again f (of-part a (k .part) (k .holds) (rw (k .is) at x)))
 
+    -- the right side alone
+    pub resume-right : {b : Binary} {q r : Reaction} → rowAt rows n .head ≡ Two b → Inside rows (further n 1) w false
+        → Resumed rows (rowAt rows (further n 1) .end) e w q → ((o : Outcome) → Means q o → Means r (rightAlone b o)) → Resumed rows n e w r
+    resume-right {b} {q} {r} head off right f = by-rule rule
+      where
+        rule : (a : HaltNo) (t : Stmt) → Holds rows n a t → active H t ≡ true → Means r (resume E H t)
+        rule a t h x =
+            let k = is-two rows n a t h head in
+            let none : active H (k .left) ≡ false = sym (off .answer a (k .left) (k .holds-left)) in
+            let some : active H (k .right) ≡ true = right-active H b (k .left) (k .right) (rw (k .is) at x) none in
+            let m = right .means (haltsOn a (haltCount (k .left))) (k .right) (holds-second rows n a k) in
+            rw (k .is, right-rule E H b (k .left) (k .right) none some) (f (resume E H (k .right)) (rw (resumed-on E H (k .right) some) at m))
+
     -- the sides of a sequence or present
     module _ {b : Binary} (head : rowAt rows n .head ≡ Two b) (sides : isParallel b ≡ false) where
-      pub resume-right : {p : Reaction} → Inside rows (further n 1) w false → Resumed rows (rowAt rows (further n 1) .end) e w p → Resumed rows n e w p
-      resume-right {p} off right = by-rule rule
-        where
-          rule : (a : HaltNo) (t : Stmt) → Holds rows n a t → active H t ≡ true → Means p (resume E H t)
-          rule a t h x =
-              let k = is-two rows n a t h head in
-              let none : active H (k .left) ≡ false = sym (off .answer a (k .left) (k .holds-left)) in
-              let some : active H (k .right) ≡ true = right-active H b (k .left) (k .right) (rw (k .is) at x) none in
-              let m = right .means (haltsOn a (haltCount (k .left))) (k .right) (holds-second rows n a k) in
-              rw (k .is, right-rule E H b (k .left) (k .right) sides none) (rw (resumed-on E H (k .right) some) at m)
-
       module _ {p : Reaction} (in-left : Inside rows (further n 1) w true) (left : Resumed rows (further n 1) e w p) where
         of-left : (a : HaltNo) (x : Stmt) → Holds rows (further n 1) a x → Means p (resume E H x)
         of-left a x h = rw (resumed-on E H x (sym (in-left .answer a x h))) at (left .means a x h)

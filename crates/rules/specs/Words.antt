@@ -20,7 +20,7 @@ use Rattle.sheet.specs.Stmt.{Stmt, leaf, one, two, haltCount}
 use Rattle.sheet.specs.Rows.{Holds, haltsOn}
 use Rattle.sets.specs.Words.{Low, Kept}
 use Rattle.rules.specs.declared.Reaction.{Reaction}
-use Rattle.rules.specs.Rules.{Signals, Halts, Outcome, idle, trapped, start, active, resume}
+use Rattle.rules.specs.Rules.{Signals, Halts, Outcome, idle, beside, trapped, start, active, resume}
 use Rattle.rules.specs.States.{boot, haltBit, haltsOf, react, nextState, apart, fits}
 
 -- the halts in a state's word
@@ -100,6 +100,12 @@ abbrev pub isParallel : Binary → Bool
 isParallel Sequence = false
 isParallel (Present s) = false
 isParallel Parallel = true
+
+-- "Sequence and present: the side with halts"; of a parallel "another side counts as 0": what comes of the right side where the left one has no halt
+abbrev pub rightAlone : Binary → Outcome → Outcome
+rightAlone Sequence o = o
+rightAlone (Present s) o = o
+rightAlone Parallel o = beside idle o
 
 -- "no sequence or present has halts on both sides; where one side alone of a parallel has halts, the other has 0 in K or R": whether p and q have
 -- halts, and whether each may end

@@ -6,6 +6,7 @@ use sheet::Head;
 use sheet::Leaf;
 use sheet::Unary;
 ghost use mathlib.Core.Path.{_≡_};
+ghost use mathlib.Core.Bool.{true};
 ghost use Prim.Native.Nat.{ℕ, _+_, _-_, _<_, _≤_};
 ghost use lib.ListN.{length, getD};
 ghost use Rattle.bits.specs.Bits.{has, signalsIn};
@@ -17,12 +18,12 @@ ghost use Rattle.sets.specs.Codes.{caught, larger};
 ghost use Rattle.rules.specs.Rules.{Signals, Outcome, idle, followed, beside, trapped, start};
 ghost use Rattle.rules.specs.States.{haltBit, noBits, atRest};
 ghost use Rattle.rules.specs.Words.{Means, LeafInWord, Runnable, Started, Resumed, root, Reacted, Next, Inside, Known, ToldApart, Whole, Fitted};
-ghost use Rattle.rules.specs.Words.{passed, cutOff, restarts, goesOn, isParallel, sidesFit};
+ghost use Rattle.rules.specs.Words.{passed, cutOff, restarts, goesOn, isParallel, rightAlone, sidesFit};
 
-// What a run of a statement yields. A halt stands at its bit of the state.
+// What a run of a statement yields. A halt stands at its bit of the state. The code has a word of its own, since a struct without gaps is handed on faster.
 pub struct Reaction {
     pub emits: u64,
-    pub code: u16,
+    pub code: u64,
     pub halts: u64,
 }
 
@@ -63,7 +64,7 @@ fn leaf(l: Leaf) -> Reaction
         },
         Leaf::Exit(k) => Reaction {
             emits: bits::EMPTY,
-            code: k,
+            code: k as u64,
             halts: bits::EMPTY,
         },
     }
@@ -81,7 +82,7 @@ fn followed(a: Reaction, b: Reaction) -> Reaction
     }
 }
 
-fn larger(a: u16, b: u16) -> u16
+fn larger(a: u64, b: u64) -> u64
     ensures { λ r. ⌜ r ≡ larger a b ⌝ }
 {
     if a < b {
@@ -110,7 +111,7 @@ fn beside(a: Reaction, b: Reaction) -> Reaction
     }
 }
 
-fn caught(code: u16) -> u16
+fn caught(code: u64) -> u64
     ensures { λ r. ⌜ r ≡ caught code ⌝ }
 {
     if code < 2 {
@@ -233,7 +234,7 @@ fn cut_off(u: Unary, e: u64) -> bool
 }
 
 // A loop whose part ended, and a sequence whose left did.
-fn restarts(u: Unary, code: u16) -> bool
+fn restarts(u: Unary, code: u64) -> bool
     ensures { λ r. ⌜ r ≡ restarts u code ⌝ }
 {
     match u {
@@ -244,7 +245,7 @@ fn restarts(u: Unary, code: u16) -> bool
     }
 }
 
-fn goes_on(b: Binary, code: u16) -> bool
+fn goes_on(b: Binary, code: u64) -> bool
     ensures { λ r. ⌜ r ≡ goesOn b code ⌝ }
 {
     match b {
@@ -264,14 +265,21 @@ fn is_parallel(b: Binary) -> bool
     }
 }
 
-// The statement at row n, resumed where one of the state's halts lies inside; elsewhere nothing is done.
+// What comes of the second part, where the first one has no halt of the state.
+fn right_alone(b: Binary, q: Reaction) -> Reaction
+    ensures { λ r. ⌜ ((o : Outcome) → Means q o → Means r (rightAlone b o)) ⌝ }
+{
+    if is_parallel(b) {
+        return beside(idle(), q);
+    }
+    q
+}
+
+// The statement at row n, in which one of the state's halts lies, resumed. A side of a parallel without one does nothing.
 pub fn resume(rows: &[u64], n: StmtNo, e: u64, state: u64) -> Reaction
-    requires { ⌜ Runnable (now rows) n ⌝ }
+    requires { ⌜ Runnable (now rows) n × Inside (now rows) n state true ⌝ }
     ensures { λ r. ⌜ Resumed (now (rows .entry)) n e state r ⌝ }
 {
-    if !inside(rows, n, state) {
-        return idle();
-    }
     let row = sheet::row_at(rows, n);
     let head = row.head;
     match head {
@@ -287,16 +295,20 @@ pub fn resume(rows: &[u64], n: StmtNo, e: u64, state: u64) -> Reaction
             passed(u, p)
         }
         Head::Two(b) => {
-            if is_parallel(b) {
-                let p = resume(rows, sheet::first_part(n), e, state);
-                return beside(p, resume(rows, second_part(rows, n), e, state));
-            }
+            let second = second_part(rows, n);
             if !inside(rows, sheet::first_part(n), state) {
-                return resume(rows, second_part(rows, n), e, state);
+                let q = resume(rows, second, e, state);
+                return right_alone(b, q);
             }
             let p = resume(rows, sheet::first_part(n), e, state);
+            if is_parallel(b) {
+                if !inside(rows, second, state) {
+                    return beside(p, idle());
+                }
+                return beside(p, resume(rows, second, e, state));
+            }
             if goes_on(b, p.code) {
-                return followed(p, start(rows, second_part(rows, n), e));
+                return followed(p, start(rows, second, e));
             }
             p
         }
@@ -313,6 +325,9 @@ pub fn react(rows: &[u64], e: u64, state: u64) -> Reaction
 {
     let root = StmtNo::new(0);
     if bits::member(state, BOOT) {
+        if !inside(rows, root, state) {
+            return idle();
+        }
         return resume(rows, root, e, state);
     }
     start(rows, root, e)

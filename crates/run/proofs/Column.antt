@@ -1,6 +1,6 @@
 -- A cell that was read from the column of words is the cell of the netlist.
 use Prim.Native.Nat.{ℕ, _<_, _≤_}
-use mathlib.Core.Path.{_≡_, sym, ap, _∙_}
+use mathlib.Core.Path.{_≡_, refl, sym, ap, _∙_}
 use mathlib.Core.List.{List}
 use native.Mathlib.Omega.{arith}
 use lib.ListN.{length, getD, length-map, List·getD-map}
@@ -26,3 +26,7 @@ pub read-cell : (words : List ℕ) (i : ℕ) {c : Cell} {x : CellNo} → x ≡ c
     → c ≡ cellAt (cellsOf words) (cellNo i)
 unfolding cellIn pick
 read-cell words i p q = q ∙ ap (λ (y : CellNo). cellIn (getD words (ofCell y) 0)) p ∙ sym (List·getD-map cellIn words i 0)
+
+-- the same where the word was read by itself
+pub word-cell : (words : List ℕ) (i : ℕ) {c : Cell} → c ≡ cellIn (getD words i 0) → c ≡ cellAt (cellsOf words) (cellNo i)
+word-cell words i q = read-cell words i refl q

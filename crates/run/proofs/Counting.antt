@@ -1,23 +1,18 @@
--- Registers and their operands, counted cell by cell.
+-- Registers, counted cell by cell.
 use Prim.Native.Nat.{ℕ, suc, _+_, _<_, _≤_}
 use mathlib.Core.Path.{_≡_, refl, sym, ap, _∙_}
-use mathlib.Core.Bool.{Bool, false, _&&_, _||_, or-false, and-false}
-use mathlib.Core.List.{List, [], _∷_, _++_, append-nil}
+use mathlib.Core.Bool.{Bool}
+use mathlib.Core.List.{List, [], _∷_, _++_}
 use native.Mathlib.Omega.{arith}
 use native.Mathlib.Numerals.{add-one}
 use native.Mathlib.Nat.{zero-add}
-use native.Mathlib.Decide.{decLt, ℕ-discrete}
-use lib.Dec.{eqb}
-use lib.ListN.{length, getD, take, drop, length-append, take-append-drop, List·getD-append, List·getD-eq-default}
-use lib.Seq.{take-suc, take-all, getD-at}
-use borrow.Author.Tests.{eq-eqb, ne-eqb}
+use lib.ListN.{length, take, drop, take-append-drop}
+use lib.Seq.{take-suc, take-all}
 use Rattle.number.specs.Counts.{cellNo}
 use Rattle.number.specs.declared.CellNo.{CellNo}
-use Rattle.bits.specs.Bits.{has}
-use Rattle.bits.proofs.Laws.{empty}
 use Rattle.gates.specs.declared.Cell.{Cell}
 use Rattle.gates.specs.declared.Cell.the-variants.{Low, High, Input, Or, And, Butnot, Register}
-use Rattle.gates.specs.Values.{cellAt, tally, registers, operands, nextOf}
+use Rattle.gates.specs.Values.{cellAt, tally, registers, operands}
 
 tally-add : (c : Cell) (m n : ℕ) → tally c (m + n) ≡ tally c m + n
 tally-add Low m n = refl
@@ -46,7 +41,7 @@ unfolding registers
 registers-append [] b = omega arith
 registers-append (c ∷ a) b = ap (tally c) (registers-append a b) ∙ tally-add c (registers a) (registers b)
 
-one-more : (cells : List Cell) (i : ℕ) → i < length cells → take (i + 1) cells ≡ take i cells ++ (cellAt cells (cellNo i) ∷ [])
+pub one-more : (cells : List Cell) (i : ℕ) → i < length cells → take (i + 1) cells ≡ take i cells ++ (cellAt cells (cellNo i) ∷ [])
 one-more cells i h = rw (add-one i) (take-suc cells i Low h)
 
 registers-next : (cells : List Cell) (i : ℕ) → i < length cells
@@ -78,26 +73,16 @@ counted-next {cells} {k} {i} c s h e =
       upto = omega arith;
     }
 
--- no register comes past bit 63 where there are at most 64
+-- no more registers than there are
 pub counted-room : {cells : List Cell} {k i : ℕ} (c : Cell) → Counted cells k i → i < length cells → c ≡ cellAt cells (cellNo i)
-    → registers cells ≤ 64 → tally c k ≤ 64
-counted-room {cells} {k} {i} c s h e room = omega (arith, counted-next c s h e .count, registers-le cells (i + 1))
+    → tally c k ≤ registers cells
+counted-room {cells} {k} {i} c s h e = omega (arith, counted-next c s h e .count, registers-le cells (i + 1))
 
 pub counted-all : {cells : List Cell} {k i : ℕ} → Counted cells k i → length cells ≤ i → k ≡ registers cells
 counted-all {cells} {k} {i} s h = s .count ∙ ap registers (take-all i cells h)
 
+-- as many operands as registers
 module _ (v : CellNo → Bool) where
-  operands-append : (a b : List Cell) → operands v (a ++ b) ≡ operands v a ++ operands v b
-  unfolding operands
-  operands-append [] b = refl
-  operands-append (Low ∷ a) b = operands-append a b
-  operands-append (High ∷ a) b = operands-append a b
-  operands-append (Input s ∷ a) b = operands-append a b
-  operands-append (Or x y ∷ a) b = operands-append a b
-  operands-append (And x y ∷ a) b = operands-append a b
-  operands-append (Butnot x y ∷ a) b = operands-append a b
-  operands-append (Register x ∷ a) b = ap (λ (l : List Bool). v x ∷ l) (operands-append a b)
-
   pub operands-length : (cs : List Cell) → length (operands v cs) ≡ registers cs
   unfolding operands registers
   operands-length [] = refl
@@ -108,53 +93,3 @@ module _ (v : CellNo → Bool) where
   operands-length (And x y ∷ a) = operands-length a
   operands-length (Butnot x y ∷ a) = operands-length a
   operands-length (Register x ∷ a) = ap suc (operands-length a)
-
-  -- one more bit after those of a list
-  one-bit : (a : List Bool) (b : Bool) (j : ℕ) → getD (a ++ (b ∷ [])) j false ≡ (getD a j false || (eqb j (length a) && b))
-  one-bit a b j = go (decLt j (length a)) (ℕ-discrete j (length a))
-    where
-      go : Dec (j < length a) → Dec (j ≡ length a) → getD (a ++ (b ∷ [])) j false ≡ (getD a j false || (eqb j (length a) && b))
-      go (yes l) d = rw (ne-eqb j (length a) (λ e. omega arith), or-false) (List·getD-append a (b ∷ []) false j l)
-      go (no l) (yes e) = rw (eq-eqb j (length a) e, List·getD-eq-default a false {n = j} (omega arith)) (getD-at a b [] false j (sym e))
-      go (no l) (no e) =
-          rw (ne-eqb j (length a) e, or-false, List·getD-eq-default a false {n = j} (omega arith))
-          (List·getD-eq-default (a ++ (b ∷ [])) false {n = j} (omega (arith, length-append a (b ∷ []))))
-
-  -- one more cell: its operand, where it is a register
-  one-cell : (a : List Bool) (c : Cell) (j : ℕ)
-      → getD (a ++ operands v (c ∷ [])) j false ≡ (getD a j false || (eqb j (length a) && nextOf v (c ∷ []) 0))
-  unfolding operands
-  one-cell a (Register x) j = one-bit a (v x) j
-  one-cell a Low j = rw (append-nil a, and-false, or-false)
-  one-cell a High j = rw (append-nil a, and-false, or-false)
-  one-cell a (Input s) j = rw (append-nil a, and-false, or-false)
-  one-cell a (Or x y) j = rw (append-nil a, and-false, or-false)
-  one-cell a (And x y) j = rw (append-nil a, and-false, or-false)
-  one-cell a (Butnot x y) j = rw (append-nil a, and-false, or-false)
-
--- the operands of the first i cells are in w
-pub record Gathered (v : CellNo → Bool) (cells : List Cell) (w k i : ℕ) : Type 0 where
-  pub counted : Counted cells k i
-  pub bits : (j : ℕ) → has w j ≡ nextOf v (take i cells) j
-
-pub gathered-none : (v : CellNo → Bool) (cells : List Cell) → Gathered v cells 0 0 0
-unfolding operands
-gathered-none v cells = record { counted = counted-none cells; bits = empty }
-
-pub gathered-next : {v : CellNo → Bool} {cells : List Cell} {w k i : ℕ} (w′ : ℕ) (c : Cell) → Gathered v cells w k i → i < length cells
-    → c ≡ cellAt cells (cellNo i) → ((j : ℕ) → has w′ j ≡ (has w j || (eqb j k && nextOf v (c ∷ []) 0)))
-    → Gathered v cells w′ (tally c k) (i + 1)
-gathered-next {v} {cells} {w} {k} {i} w′ c g h e f =
-    let first : List Bool = operands v (take i cells) in
-    let count : k ≡ length first = g .counted .count ∙ sym (operands-length v (take i cells)) in
-    let more : operands v (take (i + 1) cells) ≡ first ++ operands v (c ∷ []) =
-    ap (operands v) (one-more cells i h) ∙ operands-append v (take i cells) (cellAt cells (cellNo i) ∷ [])
-    ∙ ap (λ (x : Cell). first ++ operands v (x ∷ [])) (sym e) in
-    record {
-      counted = counted-next c (g .counted) h e;
-      bits = λ j. f j ∙ rw (g .bits j, more, count) (sym (one-cell v first c j));
-    }
-
-pub gathered-all : {v : CellNo → Bool} {cells : List Cell} {w k i : ℕ} → Gathered v cells w k i → length cells ≤ i
-    → (j : ℕ) → has w j ≡ nextOf v cells j
-gathered-all {v} {cells} {w} {k} {i} g h j = g .bits j ∙ ap (λ (cs : List Cell). nextOf v cs j) (take-all i cells h)

@@ -3,5 +3,7 @@ pub mod One
 pub mod Words
 pub mod Column
 pub mod Counting
+pub mod Numbering
 pub mod Passes
 pub mod Showing
+pub mod Going

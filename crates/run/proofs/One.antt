@@ -118,7 +118,7 @@ module _ (I O : ℕ) (cells : List Cell) (order : List ℕ) (o : Ordered cells o
     pub keeps-by : (b : ℕ) → has n b ≡ nextOf v cells b
     keeps-by b = p .keeps b ∙ ap (λ (bits : List Bool). getD bits b false) (operands-same (p .values) v same cells)
 
-  one-clock : (a b n m : ℕ) → Clock I O cells state event a n → Clock I O cells state event b m → (a ≡ b) × (n ≡ m)
+  pub one-clock : (a b n m : ℕ) → Clock I O cells state event a n → Clock I O cells state event b m → (a ≡ b) × (n ≡ m)
   one-clock a b n m p q =
       let v : CellNo → Bool = q .values in (
         ext a b (λ j. shows-by a n p v (q .solves) (signalNo j) ∙ sym (q .shows (signalNo j))),

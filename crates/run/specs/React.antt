@@ -1,18 +1,20 @@
 -- The reaction of a netlist.
 use mathlib.Core.Path.{_≡_}
-use mathlib.Core.Bool.{Bool, true, false}
-use mathlib.Core.List.{List}
+use mathlib.Core.Bool.{Bool, true, false, _&&_}
+use mathlib.Core.List.{List, [], _∷_}
 use Prim.Native.Nat.{ℕ, _+_, _≤_}
-use lib.ListN.{length, getD}
-use Rattle.number.specs.Counts.{ofCell}
+use lib.Dec.{ltb}
+use lib.ListN.{length, getD, take}
+use Rattle.number.specs.Counts.{cellNo, ofCell}
 use Rattle.number.specs.Refusals.{fault}
 use Rattle.number.specs.declared.CellNo.{CellNo}
 use Rattle.number.specs.declared.SignalNo.{SignalNo}
 use Rattle.number.specs.declared.Refusal.the-variants.{Event, State}
 use Rattle.bits.specs.Bits.{has, signalsIn}
 use Rattle.gates.specs.declared.Cell.{Cell}
-use Rattle.gates.specs.Values.{before, cellAt, value, Solves, registers, nextOf}
-use Rattle.order.specs.Paths.{Closed, Ordered}
+use Rattle.gates.specs.declared.Cell.the-variants.{Low, High, Input, Or, And, Butnot, Register}
+use Rattle.gates.specs.Values.{before, Solves, registers, nextOf}
+use Rattle.order.specs.Paths.{IsCell, Closed, Ordered}
 use Rattle.run.specs.declared.Reaction.{Reaction}
 use Rattle.run.specs.declared.Reaction.the-variants.{Refused, Reacted}
 use Rattle.run.specs.Words.{eventOk, stateOk, outputsOf}
@@ -38,13 +40,6 @@ pub data Reacts (I O : ℕ) (cells : List Cell) (state event : ℕ) : Reaction �
 abbrev pub netsIn : List Bool → CellNo → Bool
 netsIn values x = getD values (ofCell x) false
 
--- before the first gate is computed: the constants, inputs and registers have their values, and a gate has what it would have if all nets were low
-abbrev pub allLow : CellNo → Bool
-allLow x = false
-
-abbrev pub Begins : (SignalNo → Bool) → (ℕ → Bool) → List Cell → (CellNo → Bool) → Type 0
-Begins J S cells v = (x : CellNo) → v x ≡ value J (S (before cells x)) allLow (cellAt cells x)
-
 -- What is seen to once, before the first clock. The netlist was judged: each operand is a cell, each cell has a number of sixteen bits, and "over 64
 -- registers" was refused. The column lent has a value for each cell.
 pub record Judged (cells : List Cell) (values : List Bool) : Type 0 where
@@ -64,8 +59,45 @@ pub record HasSignals (I O n : ℕ) : Type 0 where
   pub few : 1 + I + O ≤ 64
   pub enough : 2 + I + O ≤ n
 
--- all that a clock takes, with the number of registers k
-pub record Prepared (I O k : ℕ) (cells : List Cell) (order : List ℕ) (values : List Bool) : Type 0 where
+-- a netlist that was judged and ordered
+pub record Prepared (I O : ℕ) (cells : List Cell) (order : List ℕ) (values : List Bool) : Type 0 where
   pub ready : Ready cells order values
   pub signals : HasSignals I O (length cells)
-  pub counted : k ≡ registers cells
+
+-- "Registers in cell order are bits 0, 1, .. of the state." is worked out once too: for each cell the bit that it is, if it is a register ..
+pub record Numbered (cells : List Cell) (bits : List ℕ) : Type 0 where
+  pub places : length cells ≤ length bits
+  pub bit : (x : CellNo) → IsCell cells x → getD bits (ofCell x) 0 ≡ before cells x
+
+-- .. and the registers' operands in cell order
+unfoldable pub operandsOf : List Cell → List ℕ
+operandsOf [] = []
+operandsOf (Low ∷ cs) = operandsOf cs
+operandsOf (High ∷ cs) = operandsOf cs
+operandsOf (Input s ∷ cs) = operandsOf cs
+operandsOf (Or x y ∷ cs) = operandsOf cs
+operandsOf (And x y ∷ cs) = operandsOf cs
+operandsOf (Butnot x y ∷ cs) = operandsOf cs
+operandsOf (Register x ∷ cs) = ofCell x ∷ operandsOf cs
+
+-- the state that operands feed
+abbrev pub fed : List ℕ → (CellNo → Bool) → ℕ → Bool
+fed operands v b = ltb b (length operands) && v (cellNo (getD operands b 0))
+
+-- the columns lent for that have room for the cells and for the operands
+pub record Numberable (cells : List Cell) (bits operands : List ℕ) : Type 0 where
+  pub few : length cells ≤ 65536
+  pub places : length cells ≤ length bits
+  pub room : registers cells ≤ length operands
+
+-- what is found: k registers, whose operands stand in the first k places
+pub record Numbers (cells : List Cell) (bits operands : List ℕ) (k : ℕ) : Type 0 where
+  pub numbered : Numbered cells bits
+  pub count : k ≡ registers cells
+  pub feeds : take k operands ≡ operandsOf cells
+
+-- all that a clock takes
+pub record Clockable (I O : ℕ) (cells : List Cell) (order bits operands : List ℕ) (values : List Bool) : Type 0 where
+  pub prepared : Prepared I O cells order values
+  pub numbered : Numbered cells bits
+  pub feeds : operands ≡ operandsOf cells

@@ -8,18 +8,19 @@ ghost use mathlib.Core.Bool.{Bool, _&&_, _||_};
 ghost use mathlib.Core.List.{[], _∷_};
 ghost use Prim.Native.Nat.{ℕ, _<_, _≤_};
 ghost use lib.Dec.{eqb};
-ghost use lib.ListN.{length};
+ghost use lib.ListN.{length, getD};
+ghost use lib.Seq.{sets};
 ghost use Rattle.number.specs.Counts.{ofCell};
 ghost use Rattle.number.specs.Refusals.{fault};
 ghost use Rattle.number.specs.declared.CellNo.{CellNo};
 ghost use Rattle.number.specs.declared.SignalNo.{SignalNo};
 ghost use Rattle.bits.specs.Bits.{has, signalsIn};
-ghost use Rattle.gates.specs.declared.Cell.the-variants.{Register};
 ghost use Rattle.gates.specs.Values as Values;
-ghost use Rattle.gates.specs.Values.{value, Solves, nextOf};
+ghost use Rattle.gates.specs.Values.{value, Solves};
 ghost use Rattle.order.specs.Paths.{cellsOf, pinsOf, Among};
 ghost use Rattle.run.specs.Words.{noneFrom, eventOk, stateOk, outputsOf};
-ghost use Rattle.run.specs.React.{netsIn, allLow, Begins, Judged, Ready, HasSignals, Prepared, Reacts};
+ghost use Rattle.run.specs.React.{netsIn, Ready, HasSignals, Numbered, operandsOf, fed, Numberable, Numbers, Clockable, Clock, Reacts};
+ghost use Rattle.run.specs.Many.{each, Room, Ran};
 
 // The answer: the refusal and the state handed in, or the outputs and the next state.
 pub enum Reaction {
@@ -48,6 +49,21 @@ pub fn event_ok(i: u32, event: u64) -> bool
     none_from(event, 1 + i)
 }
 
+// Whether each of many events has nothing but the inputs 1 to i.
+pub fn events_ok(i: u32, events: &[u64]) -> bool
+    requires { ⌜ i < 64 ⌝ }
+    ensures { λ r. ⌜ r ≡ each (eventOk i) (now (events .entry)) ⌝ }
+{
+    let mut j = 0;
+    while j < events.len() {
+        if !event_ok(i, events[j]) {
+            return false;
+        }
+        j += 1;
+    }
+    true
+}
+
 // Whether a state has no bit past k registers.
 pub fn state_ok(k: u32, state: u64) -> bool
     ensures { λ r. ⌜ r ≡ stateOk k state ⌝ }
@@ -71,48 +87,39 @@ pub fn tally(c: Cell, k: u32) -> u32
     }
 }
 
-// How many registers there are.
-pub fn registers(cells: &[u64]) -> u32
-    requires { ⌜ length (now cells) ≤ 65536 ⌝ }
-    ensures { λ r. ⌜ r ≡ Values.registers (cellsOf (now (cells .entry))) ⌝ }
-{
-    let mut k: u32 = 0;
-    let mut i = 0;
-    while i < cells.len() {
-        k = tally(gates::cell_at(cells, CellNo::new(i as u16)), k);
-        i += 1;
-    }
-    k
-}
-
-// The value of a constant, an input, or the register that is bit k; a gate is low as yet.
-fn source(c: Cell, k: u32, state: u64, event: u64) -> bool
-    ensures { λ r. ⌜ r ≡ value (signalsIn event) (has state k) allLow c ⌝ }
+// The next operand at place k where the cell is a register; the place after it.
+fn with_operand(operands: &mut [u16], k: usize, c: Cell) -> usize
+    requires { ⌜ Values.tally c k ≤ length (now operands) ⌝ }
+    ensures { λ r. ⌜ (r ≡ Values.tally c k) × (now (operands .exit) ≡ sets (now (operands .entry)) k (operandsOf (c ∷ []))) ⌝ }
 {
     match c {
-        Cell::Low => false,
-        Cell::High => true,
-        Cell::Input(s) => bits::member(event, s.number() as u32),
-        Cell::Or(_, _) => false,
-        Cell::And(_, _) => false,
-        Cell::Butnot(_, _) => false,
-        Cell::Register(_) => bits::member(state, k),
+        Cell::Low => k,
+        Cell::High => k,
+        Cell::Input(_) => k,
+        Cell::Or(_, _) => k,
+        Cell::And(_, _) => k,
+        Cell::Butnot(_, _) => k,
+        Cell::Register(x) => {
+            operands[k] = x.number();
+            k + 1
+        }
     }
 }
 
-// The first pass, in cell order: what does not depend on other cells.
-fn sources(cells: &[u64], state: u64, event: u64, values: &mut [bool])
-    requires { ⌜ Judged (cellsOf (now cells)) (now values) ⌝ }
-    ensures { λ _. ⌜ Begins (signalsIn event) (has state) (cellsOf (now (cells .entry))) (netsIn (now (values .exit))) ⌝ }
+// Once for all clocks: which bit each cell is, if it is a register, and the registers' operands in the order of their bits. How many there are.
+pub fn number_registers(cells: &[u64], bits: &mut [u16], operands: &mut [u16]) -> usize
+    requires { ⌜ Numberable (cellsOf (now cells)) (now bits) (now operands) ⌝ }
+    ensures { λ r. ⌜ Numbers (cellsOf (now (cells .entry))) (now (bits .exit)) (now (operands .exit)) r ⌝ }
 {
-    let mut k: u32 = 0;
+    let mut k: usize = 0;
     let mut i = 0;
     while i < cells.len() {
         let c = gates::cell_at(cells, CellNo::new(i as u16));
-        values[i] = source(c, k, state, event);
-        k = tally(c, k);
+        bits[i] = k as u16;
+        k = with_operand(operands, k, c);
         i += 1;
     }
+    k
 }
 
 // The value of a net.
@@ -123,35 +130,39 @@ fn net(values: &[bool], x: CellNo) -> bool
     values[x.number() as usize]
 }
 
-// The value of a cell whose operands have theirs; `own` is what the first pass gave it.
-fn value_of(c: Cell, values: &[bool], own: bool) -> bool
+// What a cell asks for whose operands have their values; `bit` is the one that it is, if it is a register.
+fn value_of(c: Cell, bit: u16, state: u64, event: u64, values: &[bool]) -> bool
     requires { ⌜ ((y : CellNo) → Among (pinsOf c) y → ofCell y < length (now values)) ⌝ }
-    ensures { λ r. ⌜ ((J : SignalNo → Bool) (q : Bool) → own ≡ value J q allLow c → r ≡ value J q (netsIn (now (values .entry))) c) ⌝ }
+    ensures { λ r. ⌜ r ≡ value (signalsIn event) (has state bit) (netsIn (now (values .entry))) c ⌝ }
 {
     match c {
-        Cell::Low => own,
-        Cell::High => own,
-        Cell::Input(_) => own,
+        Cell::Low => false,
+        Cell::High => true,
+        Cell::Input(s) => bits::member(event, s.number() as u32),
         Cell::Or(x, y) => net(values, x) || net(values, y),
         Cell::And(x, y) => net(values, x) && net(values, y),
         Cell::Butnot(x, y) => net(values, x) && !net(values, y),
-        Cell::Register(_) => own,
+        Cell::Register(_) => bits::member(state, bit as u32),
     }
 }
 
-// The values of all cells in one clock, the one solution of their equations. The second pass goes in the order found once.
-pub fn settle(cells: &[u64], order: &[u16], state: u64, event: u64, values: &mut [bool])
-    requires { ⌜ Ready (cellsOf (now cells)) (now order) (now values) ⌝ }
+// The values of all cells in one clock, the one solution of their equations, in the order found once.
+pub fn settle(
+    cells: &[u64],
+    order: &[u16],
+    bits: &[u16],
+    state: u64,
+    event: u64,
+    values: &mut [bool],
+)
+    requires { ⌜ Ready (cellsOf (now cells)) (now order) (now values) × Numbered (cellsOf (now cells)) (now bits) ⌝ }
     ensures { λ _. ⌜ Solves (signalsIn event) (has state) (cellsOf (now (cells .entry))) (netsIn (now (values .exit))) ⌝ }
 {
-    sources(cells, state, event, values);
     let mut j = 0;
     while j < cells.len() {
-        let x = order[j];
-        let at = x as usize;
-        let own = values[at];
-        let v = value_of(gates::cell_at(cells, CellNo::new(x)), values, own);
-        values[at] = v;
+        let x = order[j] as usize;
+        let v = value_of(gates::cell_in(cells[x]), bits[x], state, event, values);
+        values[x] = v;
         j += 1;
     }
 }
@@ -181,35 +192,16 @@ pub fn outputs(values: &[bool], i: u32, o: u32) -> u64
     w
 }
 
-// w, with the operand of c at bit k where c is a register.
-fn kept(w: u64, k: u32, c: Cell, values: &[bool]) -> u64
-    requires { ⌜ (Values.tally c k ≤ 64) × ((x : CellNo) → c ≡ Register x → ofCell x < length (now values)) ⌝ }
-    ensures { λ r. ⌜ ((j : ℕ) → has r j ≡ (has w j || (eqb j k && nextOf (netsIn (now (values .entry))) (c ∷ []) 0))) ⌝ }
-{
-    match c {
-        Cell::Low => w,
-        Cell::High => w,
-        Cell::Input(_) => w,
-        Cell::Or(_, _) => w,
-        Cell::And(_, _) => w,
-        Cell::Butnot(_, _) => w,
-        Cell::Register(x) => with_bit(w, k, net(values, x)),
-    }
-}
-
-// The next state: what the registers take, in cell order.
-pub fn next_state(cells: &[u64], values: &[bool]) -> u64
-    requires { ⌜ Judged (cellsOf (now cells)) (now values) ⌝ }
-    ensures { λ r. ⌜ ((b : ℕ) → has r b ≡ nextOf (netsIn (now (values .entry))) (cellsOf (now (cells .entry))) b) ⌝ }
+// The next state: the values of the registers' operands, each at its bit.
+pub fn next_state(operands: &[u16], values: &[bool]) -> u64
+    requires { ⌜ (length (now operands) ≤ 64) × ((b : ℕ) → b < length (now operands) → getD (now operands) b 0 < length (now values)) ⌝ }
+    ensures { λ r. ⌜ ((b : ℕ) → has r b ≡ fed (now (operands .entry)) (netsIn (now (values .entry))) b) ⌝ }
 {
     let mut w = bits::EMPTY;
-    let mut k: u32 = 0;
-    let mut i = 0;
-    while i < cells.len() {
-        let c = gates::cell_at(cells, CellNo::new(i as u16));
-        w = kept(w, k, c, values);
-        k = tally(c, k);
-        i += 1;
+    let mut k = 0;
+    while k < operands.len() {
+        w = with_bit(w, k as u32, values[operands[k] as usize]);
+        k += 1;
     }
     w
 }
@@ -221,26 +213,58 @@ fn refused(refusal: Refusal, state: u64) -> Reaction
     Reaction::Refused(Fault { refusal, place: 0 }, state)
 }
 
-// One clock of a netlist. It was judged and ordered before, so that each of many clocks costs this alone.
+// One clock of a netlist. It was judged and ordered and its registers were numbered before, so that each of many clocks costs this alone.
 pub fn react(
     cells: &[u64],
     order: &[u16],
+    bits: &[u16],
+    operands: &[u16],
     i: u32,
     o: u32,
-    registers: u32,
     state: u64,
     event: u64,
     values: &mut [bool],
 ) -> Reaction
-    requires { ⌜ Prepared i o registers (cellsOf (now cells)) (now order) (now values) ⌝ }
+    requires { ⌜ Clockable i o (cellsOf (now cells)) (now order) (now bits) (now operands) (now values) ⌝ }
     ensures { λ r. ⌜ Reacts i o (cellsOf (now (cells .entry))) state event r ⌝ }
 {
     if !event_ok(i, event) {
         return refused(Refusal::Event, state);
     }
-    if !state_ok(registers, state) {
+    if !state_ok(operands.len() as u32, state) {
         return refused(Refusal::State, state);
     }
-    settle(cells, order, state, event, values);
-    Reaction::Reacted(outputs(values, i, o), next_state(cells, values))
+    settle(cells, order, bits, state, event, values);
+    Reaction::Reacted(outputs(values, i, o), next_state(operands, values))
+}
+
+// A clock for each event, each from the state after the one before. The outputs and the states go to the first places of the lent slices; the last state comes
+// back.
+pub fn clocks(
+    cells: &[u64],
+    order: &[u16],
+    bits: &[u16],
+    operands: &[u16],
+    i: u32,
+    o: u32,
+    state: u64,
+    events: &[u64],
+    values: &mut [bool],
+    signals: &mut [u64],
+    states: &mut [u64],
+) -> u64
+    requires { ⌜ Clockable i o (cellsOf (now cells)) (now order) (now bits) (now operands) (now values) × Room (now events) (now signals) (now states) ⌝ }
+    ensures { λ r. ⌜ Ran (Clock i o (cellsOf (now (cells .entry)))) state (now (events .entry))
+        (now (signals .entry)) (now (signals .exit)) (now (states .entry)) (now (states .exit)) r ⌝ }
+{
+    let mut last = state;
+    let mut j = 0;
+    while j < events.len() {
+        settle(cells, order, bits, last, events[j], values);
+        signals[j] = outputs(values, i, o);
+        last = next_state(operands, values);
+        states[j] = last;
+        j += 1;
+    }
+    last
 }

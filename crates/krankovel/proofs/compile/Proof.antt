@@ -36,26 +36,32 @@ refusal-requires c κs = search needs
 enum-known-c : tie.Need-enum-known-c
 enum-known-c c = search needs
 
+cast-written : tie.Need-cast-written
+cast-written c = search needs
+
+cast-written-2 : tie.Need-cast-written-2
+cast-written-2 c = search needs
+
 cast-cells : tie.Need-cast-cells
 cast-cells c = search needs
 
 array-share-prefix-cells : tie.Need-array-share-prefix-cells
 array-share-prefix-cells c =
-    let at-c = c .before in
+    let at-c = c .before .before .before in
     let at-compile = at-c .before .before .before .before .before .before .before .before in
     let a = was-compiled (at-compile .compile .ensures) (at-c .c .given .1) in
     omega (arith, n-few a, at-compile .compile .kept)
 
 slice-aggregate-written : tie.Need-slice-aggregate-written
 slice-aggregate-written c =
-    let at-c = c .before .before in
+    let at-c = c .before .before .before .before in
     let at-compile = at-c .before .before .before .before .before .before .before .before in
     let a = was-compiled (at-compile .compile .ensures) (at-c .c .given .1) in
     prefix-long a (search needs)
 
 written-requires : tie.Need-written-requires
 written-requires c κs =
-    let at-c = c .before .before .before in
+    let at-c = c .before .before .before .before .before in
     let at-compile = at-c .before .before .before .before .before .before .before .before in
     let a = was-compiled (at-compile .compile .ensures) (at-c .c .given .1) in
     let long = prefix-long a (search needs) in
@@ -73,10 +79,10 @@ same-length c = search needs
 returns-2 : tie.Need-returns-2
 returns-2 c =
     let at-written = c .before .before in
-    let at-c = at-written .before .before .before .before in
+    let at-c = at-written .before .before .before .before .before .before in
     let at-compile = at-c .before .before .before .before .before .before .before .before in
     let a = was-compiled (at-compile .compile .ensures) (at-c .c .given .1) in
-    written-accepted a (at-written .written .ensures)
+    written-accepted a (search needs) (at-written .written .ensures)
 
 pub compile-spec : {M : Type 1} → statement M
 compile-spec =
@@ -92,6 +98,8 @@ compile-spec =
     enum-known-f
     refusal-requires
     enum-known-c
+    cast-written
+    cast-written-2
     cast-cells
     array-share-prefix-cells
     slice-aggregate-written

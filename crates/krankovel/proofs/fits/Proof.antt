@@ -56,7 +56,8 @@ returns c =
     let at-fits2 = at-if1 .before in
     let at-c = at-fits2 .before .before .before .before in
     let at-compile = at-c .before .before .before .before .before .before .before .before in
-    rw (c .acceptance .ensures) (fitting-accepted (was-compiled (at-compile .compile .ensures) (at-c .c .given .1)) (at-fits2 .fits2 .ensures) (at-if1 .if1 .taken))
+    rw (c .acceptance .ensures) (fitting-accepted (was-compiled (at-compile .compile .ensures) (at-c .c .given .1))
+    (at-fits2 .fits2 .ensures) (at-if1 .if1 .taken))
 
 refusal-requires-2 : tie.Need-refusal-requires-2
 refusal-requires-2 c κs = search needs

@@ -1,5 +1,5 @@
 -- What the interpreter answers, in the paper's numbers.
-use mathlib.Core.Path.{sym, _∙_}
+use mathlib.Core.Path.{_∙_}
 use Rattle.krankovel.proofs.SheetEntries.{reacts-as}
 use borrow.Author.Needs.{needs}
 use Rattle.krankovel.proofs.react.Statement.{statement}

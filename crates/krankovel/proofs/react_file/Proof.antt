@@ -1,5 +1,5 @@
 -- The file's fault answers; otherwise its netlist has one clock.
-use mathlib.Core.Path.{refl, sym, _∙_}
+use mathlib.Core.Path.{refl, sym}
 use native.Mathlib.Omega.{arith}
 use lib.Seq.{length-take-le}
 use Rattle.netlists.proofs.Running.{file, file-prepared}
@@ -78,8 +78,11 @@ clocked-requires c κs =
     let at-h = c .before .before .before .before .before in
     let at-check-file = at-h .before .before .before .before .before .before in
     let did = rw (at-h .h .given .1) at (at-check-file .check-file .ensures) in
-    let few = file-few _ did (search needs) (search needs) in
-    (file-prepared _ did (search needs) (search needs) refl (length-take-le _ _ (omega (arith, few))), sym (length-take-le _ _ (omega (arith, few, at-check-file .check-file .kept))), few)
+    let few = file-few _ did (search needs) (search needs) in (
+      file-prepared _ did (search needs) (search needs) (length-take-le _ _ (omega (arith, few))),
+      sym (length-take-le _ _ (omega (arith, few, at-check-file .check-file .kept))),
+      few,
+    )
 
 returns : tie.Need-returns
 returns c =
@@ -119,3 +122,5 @@ react-file-spec =
     clocked-requires
     returns
     returns-2)
+
+-- x

@@ -1,15 +1,8 @@
 -- BUFFER, or the counts, in the paper's numbers.
-use mathlib.Core.Path.{refl, _∙_}
 use Rattle.krankovel.proofs.FileEntries.{filed}
 use borrow.Author.Needs.{needs}
 use Rattle.krankovel.proofs.written.Statement.{statement}
 use Rattle.krankovel.proofs.written.Tie as tie
-
-cast-write-file : tie.Need-cast-write-file
-cast-write-file c = search needs
-
-cast-write-file-2 : tie.Need-cast-write-file-2
-cast-write-file-2 c = search needs
 
 write-file-requires : tie.Need-write-file-requires
 write-file-requires c κs = search needs
@@ -36,25 +29,20 @@ returns : tie.Need-returns
 returns c =
     let at-f = c .before .before in
     let at-write-file = at-f .before .before .before .before in
-    let start = at-write-file .before .before .before .before .before .before in
-    filed (start .args .cells .now) (at-write-file .write-file .ensures) refl (rw (at-f .f .given .1) (c .refusal .ensures))
+    filed (at-write-file .write-file .ensures) (rw (at-f .f .given .1) (c .refusal .ensures))
 
 same-length-2 : tie.Need-same-length-2
 same-length-2 c = search needs
 
 returns-2 : tie.Need-returns-2
 returns-2 c =
-    let at-enum-told = c .before in
-    let at-write-file = at-enum-told .before .before .before .before in
-    let start = at-write-file .before .before .before .before .before .before in
-    filed (start .args .cells .now) (at-write-file .write-file .ensures) refl (rw (at-enum-told .enum-told .given .1) (c .acceptance .ensures))
+    let at-write-file = c .before .before .before .before .before in
+    filed (at-write-file .write-file .ensures) (rw (c .before .enum-told .given .1) (c .acceptance .ensures))
 
 pub written-spec : {M : Type 1} → statement M
 written-spec =
     tie.close
     (tie.spec
-    cast-write-file
-    cast-write-file-2
     write-file-requires
     enum-known-f
     refusal-requires

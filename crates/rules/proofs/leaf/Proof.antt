@@ -39,6 +39,9 @@ add-requires-2 c κs =
 enum-known-l-3 : tie.Need-enum-known-l-3
 enum-known-l-3 c = search needs
 
+cast-t11 : tie.Need-cast-t11
+cast-t11 c = search needs
+
 returns : tie.Need-returns
 unfolding start
 returns c = λ E. rw (c .before .enum-told .given .1) (c .idle .ensures)
@@ -74,6 +77,7 @@ leaf-spec =
     cast-add
     add-requires-2
     enum-known-l-3
+    cast-t11
     returns
     returns-2
     returns-3

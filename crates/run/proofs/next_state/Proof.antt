@@ -1,82 +1,66 @@
--- `next_state` meets its contract: cell by cell, with the count of the registers passed.
+-- `next_state` meets its contract: bit by bit.
 use Prim.Native.Nat.{_-_}
-use mathlib.Core.Path.{sym, _∙_}
 use native.Mathlib.Omega.{arith}
 use borrow.Author.Needs.{needs}
 use lib.ListN.{length}
-use Rattle.number.specs.Counts.{cellNo}
-use Rattle.order.specs.Paths.{cellsOf}
 use Rattle.run.specs.React.{netsIn}
-use Rattle.run.proofs.Column.{inside, at-end, read-cell}
-use Rattle.run.proofs.Counting.{Gathered, gathered-none, gathered-next, gathered-all, counted-room}
+use Rattle.run.proofs.Numbering.{Feeding, feeding-none, feeding-next, feeding-all}
 use Rattle.run.proofs.next_state.Statement.{statement}
 use Rattle.run.proofs.next_state.Tie as tie
 
 abbrev Inv-loop : tie.InvT-loop
-Inv-loop cells values w₀ k₀ i₀ w k i = Gathered (netsIn values) (cellsOf cells) w k i
+Inv-loop operands values w₀ k₀ w k = Feeding operands (netsIn values) w k
 
 abbrev μ-loop : tie.MeasureT-loop
-μ-loop cells values w₀ k₀ i₀ w k i = length cells - i
+μ-loop operands values w₀ k₀ w k = length operands - k
 
 loop-holds : tie.Need-loop-holds Inv-loop μ-loop
-loop-holds c = gathered-none _ _
+loop-holds c = feeding-none
 
-cast-new : tie.Need-cast-new Inv-loop μ-loop
-cast-new c =
+cast-with-bit : tie.Need-cast-with-bit Inv-loop μ-loop
+cast-with-bit c =
     let start = c .before .before .before .before in
-    omega (arith, start .pre .few, inside (start .args .cells .now) (c .loop-test .taken))
+    omega (arith, start .pre .0)
 
-new-requires : tie.Need-new-requires Inv-loop μ-loop
-new-requires c κs = search needs
+mul-with-bit : tie.Need-mul-with-bit Inv-loop μ-loop
+mul-with-bit c = search needs
 
-cell-at-requires : tie.Need-cell-at-requires Inv-loop μ-loop
-cell-at-requires c κs = search needs
+shared-slice-read-with-bit : tie.Need-shared-slice-read-with-bit Inv-loop μ-loop
+shared-slice-read-with-bit c = search needs
 
--- there is a bit for the register, and a value for its operand
-kept-requires : tie.Need-kept-requires Inv-loop μ-loop
-kept-requires c κs =
+cast-with-bit-2 : tie.Need-cast-with-bit-2 Inv-loop μ-loop
+cast-with-bit-2 c =
+    let at-loop = c .before .before in
+    omega (arith, c .shared-slice-known3 .given (at-loop .loop .k))
+
+shared-slice-read-with-bit-2 : tie.Need-shared-slice-read-with-bit-2 Inv-loop μ-loop
+shared-slice-read-with-bit-2 c =
     let at-loop-test = c .before .before in
     let at-loop = at-loop-test .before in
     let start = at-loop .before .before .before in
-    let words = start .args .cells .now in
-    let loop = at-loop .loop in
-    let cell = read-cell words (loop .i) (c .before .new .ensures) (c .cell-at .ensures) in
-    let here = inside words (at-loop-test .loop-test .taken) in (
-      counted-room (c .cell-at .result) (loop .inv .counted) here cell (start .pre .bits),
-      λ x e. omega (arith, start .pre .long, start .pre .closed .registers (cellNo (loop .i)) x (sym cell ∙ e)),
-    )
+    start .pre .1 (at-loop .loop .k) (at-loop-test .loop-test .taken)
 
-tally-requires : tie.Need-tally-requires Inv-loop μ-loop
-tally-requires c κs =
-    let at-loop-test = c .before .before .before in
-    let at-loop = at-loop-test .before in
-    let start = at-loop .before .before .before in
-    omega (arith, start .pre .few, inside (start .args .cells .now) (at-loop-test .loop-test .taken), at-loop .loop .inv .counted .few)
+with-bit-requires : tie.Need-with-bit-requires Inv-loop μ-loop
+with-bit-requires c κs =
+    let start = c .before .before .before .before .before .before in
+    omega (arith, start .pre .0)
 
-add-i : tie.Need-add-i Inv-loop μ-loop
-add-i c =
-    let at-loop-test = c .before .before .before .before in
-    let start = at-loop-test .before .before .before .before in
-    omega (arith, start .pre .few, inside (start .args .cells .now) (at-loop-test .loop-test .taken))
+add-k : tie.Need-add-k Inv-loop μ-loop
+add-k c =
+    let start = c .before .before .before .before .before .before .before in
+    omega (arith, start .pre .0)
 
 loop-less : tie.Need-loop-less Inv-loop μ-loop
 loop-less c = omega arith
 
 loop-again : tie.Need-loop-again Inv-loop μ-loop
 loop-again c =
-    let at-cell-at = c .before .before in
-    let at-new = at-cell-at .before in
-    let at-loop-test = at-new .before in
+    let at-loop-test = c .before .before .before in
     let at-loop = at-loop-test .before in
-    let start = at-loop .before .before .before in
-    let words = start .args .cells .now in
-    let loop = at-loop .loop in
-    let cell = read-cell words (loop .i) (at-new .new .ensures) (at-cell-at .cell-at .ensures) in
-    let here = inside words (at-loop-test .loop-test .taken) in
-    rw (c .tally .ensures) (gathered-next _ (at-cell-at .cell-at .result) (loop .inv) here cell (c .before .kept .ensures))
+    feeding-next _ (at-loop .loop .inv) (at-loop-test .loop-test .taken) (c .with-bit .ensures)
 
 returns : tie.Need-returns Inv-loop μ-loop
-returns c = gathered-all (c .before .loop .inv) (at-end (c .before .before .before .before .args .cells .now) (c .loop-test .left))
+returns c = feeding-all (c .before .loop .inv) (c .loop-test .left)
 
 pub next-state-spec : {M : Type 1} → statement M
 next-state-spec =
@@ -85,12 +69,13 @@ next-state-spec =
     Inv-loop
     μ-loop
     loop-holds
-    cast-new
-    new-requires
-    cell-at-requires
-    kept-requires
-    tally-requires
-    add-i
+    cast-with-bit
+    mul-with-bit
+    shared-slice-read-with-bit
+    cast-with-bit-2
+    shared-slice-read-with-bit-2
+    with-bit-requires
+    add-k
     loop-less
     loop-again
     returns)

@@ -5,7 +5,7 @@ use mathlib.Core.Path.{_≡_}
 use Rattle.io.proofs.Counting.{counts}
 use Prim.Native.Nat.{_+_, _≤_, _-_}
 use Rattle.answers.specs.Words.{wordEnd}
-use Rattle.answers.proofs.Values.{end-blank, end-later, end-text}
+use Rattle.answers.proofs.Blanks.{end-blank, end-later, end-text}
 use borrow.Author.Needs.{needs}
 use Rattle.answers.proofs.words.word_end.Statement.{statement}
 use Rattle.answers.proofs.words.word_end.Tie as tie

@@ -1,0 +1,163 @@
+// The public entries for C; include/krankovel.h documents them. Each hands on what the entry of its name answers, so its contract is the entry's own.
+use krankovel::Answer;
+use krankovel::Course;
+use krankovel::Listing;
+use krankovel::Reaction;
+use krankovel::Reading;
+ghost use mathlib.Core.Path.{_≡_};
+ghost use Rattle.bits.specs.Bits.{has};
+ghost use Rattle.sheet.specs.Read.{readSheet};
+ghost use Rattle.rules.specs.States.{atRest};
+ghost use Rattle.files.specs.Read.{readFile};
+ghost use Rattle.netlists.specs.Words.{judgeCells};
+ghost use Rattle.krankovel.specs.Sheets.{readingOf, Checked, Fitting, Reacted};
+ghost use Rattle.krankovel.specs.Files.{Written, NetWritten};
+ghost use Rattle.krankovel.specs.Cells.{Listed, NetListed};
+ghost use Rattle.krankovel.specs.Netlists.{NetChecked, NetReacted};
+ghost use Rattle.krankovel.specs.Many.{ReactedMany, NetReactedMany};
+
+#[no_mangle]
+pub extern "C" fn krankovel_read(s: &[u8]) -> Reading
+    ensures { λ r. ⌜ r ≡ readingOf (readSheet (now (s .entry))) ⌝ }
+{
+    krankovel::read(s)
+}
+
+#[no_mangle]
+pub extern "C" fn krankovel_check(s: &[u8]) -> Answer
+    ensures { λ r. ⌜ Checked (now (s .entry)) r ⌝ }
+{
+    krankovel::check(s)
+}
+
+#[no_mangle]
+pub extern "C" fn krankovel_compile(s: &[u8], buffer: &mut [u8]) -> Answer
+    ensures { λ r. ⌜ Written (now (s .entry)) r (now (buffer .entry)) (now (buffer .exit)) ⌝ }
+{
+    krankovel::compile(s, buffer)
+}
+
+#[no_mangle]
+pub extern "C" fn krankovel_compile_cells(s: &[u8], words: &mut [u64]) -> Listing
+    ensures { λ r. ⌜ Listed (now (s .entry)) r (now (words .entry)) (now (words .exit)) ⌝ }
+{
+    krankovel::compile_cells(s, words)
+}
+
+#[no_mangle]
+pub extern "C" fn krankovel_fits(s: &[u8], state: u64) -> Answer
+    ensures { λ r. ⌜ Fitting (now (s .entry)) state r ⌝ }
+{
+    krankovel::fits(s, state)
+}
+
+#[no_mangle]
+pub extern "C" fn krankovel_rest(state: u64) -> bool
+    ensures { λ r. ⌜ r ≡ atRest (has state) ⌝ }
+{
+    krankovel::rest(state)
+}
+
+#[no_mangle]
+pub extern "C" fn krankovel_react(s: &[u8], state: u64, event: u64) -> Reaction
+    ensures { λ r. ⌜ Reacted (now (s .entry)) state event r ⌝ }
+{
+    krankovel::react(s, state, event)
+}
+
+#[no_mangle]
+pub extern "C" fn krankovel_check_file(s: &[u8]) -> Answer
+    ensures { λ r. ⌜ NetChecked (readFile (now (s .entry))) r ⌝ }
+{
+    krankovel::check_file(s)
+}
+
+#[no_mangle]
+pub extern "C" fn krankovel_read_file(s: &[u8], words: &mut [u64]) -> Listing
+    ensures { λ r. ⌜ NetListed (readFile (now (s .entry))) r (now (words .entry)) (now (words .exit)) ⌝ }
+{
+    krankovel::read_file(s, words)
+}
+
+#[no_mangle]
+pub extern "C" fn krankovel_react_file(s: &[u8], state: u64, event: u64) -> Reaction
+    ensures { λ r. ⌜ NetReacted (readFile (now (s .entry))) state event r ⌝ }
+{
+    krankovel::react_file(s, state, event)
+}
+
+#[no_mangle]
+pub extern "C" fn krankovel_check_cells(inputs: u32, outputs: u32, words: &[u64]) -> Answer
+    ensures { λ r. ⌜ NetChecked (judgeCells inputs outputs (now (words .entry))) r ⌝ }
+{
+    krankovel::check_cells(inputs, outputs, words)
+}
+
+#[no_mangle]
+pub extern "C" fn krankovel_write_cells(
+    inputs: u32,
+    outputs: u32,
+    words: &[u64],
+    buffer: &mut [u8],
+) -> Answer
+    ensures { λ r. ⌜ NetWritten (judgeCells inputs outputs (now (words .entry))) r (now (buffer .entry)) (now (buffer .exit)) ⌝ }
+{
+    krankovel::write_cells(inputs, outputs, words, buffer)
+}
+
+#[no_mangle]
+pub extern "C" fn krankovel_react_cells(
+    inputs: u32,
+    outputs: u32,
+    words: &[u64],
+    state: u64,
+    event: u64,
+) -> Reaction
+    ensures { λ r. ⌜ NetReacted (judgeCells inputs outputs (now (words .entry))) state event r ⌝ }
+{
+    krankovel::react_cells(inputs, outputs, words, state, event)
+}
+
+#[no_mangle]
+pub extern "C" fn krankovel_react_many(
+    s: &[u8],
+    state: u64,
+    events: &[u64],
+    emissions: &mut [u64],
+    states: &mut [u64],
+) -> Course
+    ensures { λ r. ⌜ ReactedMany (now (s .entry)) state (now (events .entry))
+        (now (emissions .entry)) (now (states .entry)) r (now (emissions .exit)) (now (states .exit)) ⌝ }
+{
+    krankovel::react_many(s, state, events, emissions, states)
+}
+
+#[no_mangle]
+pub extern "C" fn krankovel_react_file_many(
+    s: &[u8],
+    state: u64,
+    events: &[u64],
+    outputs: &mut [u64],
+    states: &mut [u64],
+) -> Course
+    ensures { λ r. ⌜ NetReactedMany (readFile (now (s .entry))) state (now (events .entry))
+        (now (outputs .entry)) (now (states .entry)) r (now (outputs .exit)) (now (states .exit)) ⌝ }
+{
+    krankovel::react_file_many(s, state, events, outputs, states)
+}
+
+#[no_mangle]
+pub extern "C" fn krankovel_react_cells_many(
+    inputs: u32,
+    outputs: u32,
+    words: &[u64],
+    state: u64,
+    events: &[u64],
+    signals: &mut [u64],
+    states: &mut [u64],
+) -> Course
+    ensures { λ r. ⌜ NetReactedMany (judgeCells inputs outputs (now (words .entry))) state (now (events .entry))
+        (now (signals .entry)) (now (states .entry)) r (now (signals .exit)) (now (states .exit)) ⌝ }
+{
+    krankovel::react_cells_many(inputs, outputs, words, state, events, signals, states)
+}

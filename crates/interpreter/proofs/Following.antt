@@ -1,0 +1,60 @@
+-- The loop over many events: the moments so far are a run, and the state after them fits, so that the next event has its moment.
+use mathlib.Core.Path.{_≡_}
+use mathlib.Core.Bool.{true}
+use mathlib.Core.List.{List}
+use Prim.Native.Nat.{ℕ, _+_, _<_, _≤_}
+use lib.ListN.{length, getD, set}
+use Rattle.number.specs.declared.HaltNo.{HaltNo}
+use Rattle.number.specs.Counts.{haltNo}
+use Rattle.bits.specs.Bits.{has}
+use Rattle.sheet.specs.Stmt.{Stmt}
+use Rattle.sheet.specs.Rows.{Holds}
+use Rattle.rules.specs.declared.Reaction.{Reaction}
+use Rattle.rules.specs.States.{fits}
+use Rattle.rules.specs.Words.{Next, root}
+use Rattle.run.specs.Words.{eventOk}
+use Rattle.run.proofs.Going.{Upto, upto-none, signals-length, states-length, upto-next, upto-all, each-at}
+use Rattle.interpreter.specs.Settle.{Settling, AgreedAt}
+use Rattle.interpreter.specs.Interpret.{Moment}
+use Rattle.interpreter.specs.Many.{Runs, RanRows}
+use Rattle.interpreter.proofs.Interpreting.{moment-at}
+use Rattle.interpreter.proofs.Ready.{settling-rows}
+use Rattle.interpreter.proofs.Alone.{fits-again}
+
+module _ (rows : List ℕ) (start : ℕ) (events emissions states : List ℕ) where
+  -- the loop has come to event j
+  pub record Followed (emissions′ states′ : List ℕ) (state j : ℕ) : Type 0 where
+    pub upto : (a : HaltNo) (t : Stmt) → Holds rows root a t → Upto (Moment t) start events emissions states emissions′ states′ state j
+    pub fit : (p : Runs rows start events emissions states) → fits (has state) (p .read .root) ≡ true
+
+  pub followed-none : Followed emissions states start 0
+  followed-none = record { upto = λ a t h. upto-none (Moment t) start events emissions states; fit = λ p. p .fit }
+
+  module _ {emissions′ states′ : List ℕ} {state j : ℕ} (here : Followed emissions′ states′ state j) where
+    pub followed-all : length events ≤ j → RanRows rows start events emissions emissions′ states states′ state
+    followed-all end = record { ran = λ a t h. upto-all (Moment t) start events emissions states (here .upto a t h) end }
+
+    module _ (p : Runs rows start events emissions states) where
+      own-upto : Upto (Moment (p .read .root)) start events emissions states emissions′ states′ state j
+      own-upto = here .upto (haltNo 0) (p .read .root) (p .holds)
+
+      pub emissions-long : length emissions′ ≡ length emissions
+      emissions-long = signals-length (Moment (p .read .root)) start events emissions states own-upto
+
+      pub states-long : length states′ ≡ length states
+      states-long = states-length (Moment (p .read .root)) start events emissions states own-upto
+
+    module _ (h : j < length events) where
+      event-ok : (p : Runs rows start events emissions states) → eventOk (p .read .inputs) (getD events j 0) ≡ true
+      event-ok p = each-at (eventOk (p .read .inputs)) events j h (p .own)
+
+      pub followed-settling : Runs rows start events emissions states → Settling rows state (getD events j 0)
+      followed-settling p = settling-rows (p .accepts) (p .holds) (here .fit p) (event-ok p)
+
+      pub followed-next : {r : Reaction} {next : ℕ} → AgreedAt rows state (getD events j 0) r → Next r next
+          → Followed (set emissions′ j (r .emits)) (set states′ j next) next (j + 1)
+      followed-next {r} {next} agreed after =
+          record {
+            upto = λ a t holds. upto-next (Moment t) start events emissions states (here .upto a t holds) (r .emits) next h (moment-at a t agreed after holds);
+            fit = λ p. fits-again (p .accepts) (event-ok p) (here .fit p) (moment-at (haltNo 0) (p .read .root) agreed after (p .holds));
+          }

@@ -1,0 +1,32 @@
+-- Only a present asks.
+use mathlib.Core.Path.{refl}
+use Rattle.interpreter.proofs.Asking.{covers-none}
+use borrow.Author.Needs.{needs}
+use Rattle.interpreter.proofs.asked_by_two.Statement.{statement}
+use Rattle.interpreter.proofs.asked_by_two.Tie as tie
+
+enum-told : tie.Need-enum-told
+enum-told c = search needs
+
+enum-known-b : tie.Need-enum-known-b
+enum-known-b c = search needs
+
+asked-requires : tie.Need-asked-requires
+asked-requires c κs = search needs
+
+enum-told-2 : tie.Need-enum-told-2
+enum-told-2 c = search needs
+
+returns : tie.Need-returns
+returns c = rw (c .enum-told .given .1) (covers-none 0 (λ s. refl))
+
+returns-2 : tie.Need-returns-2
+returns-2 c =
+    let at-b = c .before .before in
+    rw (at-b .b .given .1) (c .asked .ensures)
+
+returns-3 : tie.Need-returns-3
+returns-3 c = rw (c .enum-told2 .given .1) (covers-none 0 (λ s. refl))
+
+pub asked-by-two-spec : {M : Type 1} → statement M
+asked-by-two-spec = tie.close (tie.spec enum-told enum-known-b asked-requires enum-told-2 returns returns-2 returns-3)

@@ -1,0 +1,60 @@
+-- End to end, over the entries' own answers: a sheet, and the file that `compile` wrote of it.
+use mathlib.Core.Path.{_≡_}
+use mathlib.Core.Bool.{true, _&&_}
+use mathlib.Core.List.{List, [], _∷_}
+use Prim.Native.Nat.{ℕ}
+use lib.ListN.{length, take}
+use Rattle.number.specs.declared.SignalNo.{SignalNo}
+use Rattle.bits.specs.Bits.{signalsIn}
+use Rattle.sheet.specs.Read.{Sheet}
+use Rattle.run.specs.Words.{isOutput}
+use Rattle.files.specs.Read.{readFile}
+use Rattle.compiler.specs.Check.{Accepted}
+use Rattle.krankovel.specs.declared.Answer.{Answer}
+use Rattle.krankovel.specs.declared.Listing.{Listing}
+use Rattle.krankovel.specs.declared.many.Course.{Course}
+use Rattle.krankovel.specs.Answers.{acceptance}
+use Rattle.krankovel.specs.Sheets.{Checked}
+use Rattle.krankovel.specs.Netlists.{NetChecked}
+use Rattle.krankovel.specs.Cells.{Listed, NetListed}
+use Rattle.krankovel.specs.Many.{hasRoom, ReactedMany, NetReactedMany}
+
+-- one clock of the interpreter beside one of the netlist: the same outputs, "taken out of the emissions", and the same next state
+pub record SameClock (I O emissions next outputs next′ : ℕ) : Type 0 where
+  pub shows : (s : SignalNo) → signalsIn outputs s ≡ (isOutput I O s && signalsIn emissions s)
+  pub keeps : next ≡ next′
+
+-- at each clock
+pub data SameClocks (I O : ℕ) : List ℕ → List ℕ → List ℕ → List ℕ → Type 0 where
+  none : SameClocks I O [] [] [] []
+  more : {emissions next outputs next′ : ℕ} {es ns os ns′ : List ℕ} → SameClock I O emissions next outputs next′ → SameClocks I O es ns os ns′
+      → SameClocks I O (emissions ∷ es) (next ∷ ns) (outputs ∷ os) (next′ ∷ ns′)
+
+-- the sheet's answer to many events beside the file's: both refuse, or both accept with the same outputs and the same states, as many as there are events
+pub record SameRun (I O : ℕ) (events : List ℕ) (r r′ : Course) (emissions states outputs netStates : List ℕ) : Type 0 where
+  pub number : r .number ≡ r′ .number
+  pub state : r .state ≡ r′ .state
+  pub clocks : r .number ≡ 0
+      → SameClocks I O (take (length events) emissions) (take (length events) states) (take (length events) outputs) (take (length events) netStates)
+
+-- the same listing but for the statements, which a file does not have
+abbrev pub withoutStatements : Listing → Listing
+withoutStatements r = record { number = r .number; place = r .place; statements = 0; cells = r .cells; inputs = r .inputs; outputs = r .outputs }
+
+-- "for every sheet that 'check' accepts, the file that 'compile' wrote is accepted by the file reader and holds the same cells; and for every list of events
+-- from fresh, interpreter .. and that file give equal outputs and equal states at each clock"
+pub record EndToEnd (s buffer : List ℕ) : Type 0 where
+  pub read : Sheet
+  pub accepts : Accepted s read
+  pub file : List ℕ
+  pub begins : take (length file) buffer ≡ file
+  -- `check` and `check_file`
+  pub accepted : (a b : Answer) → Checked s a → NetChecked (readFile file) b → b ≡ acceptance 0 (a .cells)
+  -- `compile_cells` and `read_file`, into slices that held the same
+  pub cells : (r r′ : Listing) (words words₁ words₂ : List ℕ) → Listed s r words words₁ → NetListed (readFile file) r′ words words₂
+      → (r′ ≡ withoutStatements r) × (words₁ ≡ words₂)
+  -- `react_many` and `react_file_many`, into slices that are long enough
+  pub runs : (events emissions states outputs netStates : List ℕ) → hasRoom events emissions states ≡ true → hasRoom events outputs netStates ≡ true
+      → (r r′ : Course) (emissions′ states′ outputs′ netStates′ : List ℕ) → ReactedMany s 0 events emissions states r emissions′ states′
+      → NetReactedMany (readFile file) 0 events outputs netStates r′ outputs′ netStates′
+      → SameRun (read .inputs) (read .outputs) events r r′ emissions′ states′ outputs′ netStates′

@@ -1,0 +1,124 @@
+-- Nothing else satisfies the description: a state and a line have one state and one text that follow, and an input has one output.
+use Prim.Native.Nat.{ℕ}
+use mathlib.Core.Path.{_≡_, refl, sym, ap, ap₂, _∙_}
+use mathlib.Core.List.{List, [], _∷_, _++_}
+use native.Mathlib.Omega.{arith}
+use Rattle.sheet.specs.Read.{sheet}
+use Rattle.krankovel.specs.declared.Answer.{Answer}
+use Rattle.krankovel.specs.declared.Reaction.{Reaction}
+use Rattle.krankovel.specs.Sheets.{Checked, Reacted}
+use Rattle.krankovel.proofs.OneSheetAnswer.{one-checked, one-reacted}
+use Rattle.digits.specs.declared.Value.the-variants.{Is, Bad}
+use Rattle.digits.specs.Bytes.{bytes, malformed}
+use Rattle.tracing.specs.declared.After.{After}
+use Rattle.tracing.specs.Steps.{State, first, running, stopped, sheetLine, eventLine, Headed, opened, moved, instantOf, Steps, stateOf, Stepped}
+use Rattle.tracing.specs.Steps.{sheet-malformed, sheet-refused, sheet-accepted, event-malformed, event-refused, instant, after-stop}
+use Rattle.tracing.specs.Texts.{okText, refusedText}
+use Rattle.tracing.specs.Output.{Printed, no-line, next-line, Traced}
+
+pub record SameStep (t t′ : State) (x x′ : List ℕ) : Type 0 where
+  pub state : t ≡ t′
+  pub text : x ≡ x′
+
+same : {t : State} {text : List ℕ} → SameStep t t text text
+same = record { state = refl; text = refl }
+
+-- a line is bytes or malformed, and not both
+module _ {A : Type 0} (line : List ℕ) where
+  not-both : {s : List ℕ} → sheetLine line ≡ malformed → sheetLine line ≡ bytes s → A
+  not-both a b = let z : _≡_ {A = ℕ} 0 1 = cc in absurd (omega arith)
+
+  no-event : {event : ℕ} → eventLine line ≡ Bad → eventLine line ≡ Is event → A
+  no-event a b = let z : _≡_ {A = ℕ} 0 1 = cc in absurd (omega arith)
+
+-- the sheet and its check
+record SameSheet (s s′ : List ℕ) (r r′ : Answer) : Type 0 where
+  bytes-same : s ≡ s′
+  answer-same : r ≡ r′
+
+same-sheet : (line : List ℕ) {s s′ : List ℕ} {r r′ : Answer} → sheetLine line ≡ bytes s → sheetLine line ≡ bytes s′ → Checked s r → Checked s′ r′
+    → SameSheet s s′ r r′
+same-sheet line {s} {s′} a b c d =
+    let both : bytes s ≡ bytes s′ = sym a ∙ b in
+    let is : s ≡ s′ = cc in
+    record { bytes-same = is; answer-same = one-checked s c (rw (sym is) at d) }
+
+-- the sheet's numbers
+same-opened : {s s′ : List ℕ} {I I′ O O′ : ℕ} → s ≡ s′ → Headed s I O → Headed s′ I′ O′ → opened s I O ≡ opened s′ I′ O′
+same-opened {s} {s′} {I} {I′} {O} {O′} is a b =
+    let read : sheet (a .read-as) ≡ sheet (b .read-as) = sym (a .is) ∙ rw is (b .is) in
+    let one : a .read-as ≡ b .read-as = cc in
+    let inputs : I ≡ I′ = a .inputs-are ∙ rw one (sym (b .inputs-are)) in
+    let outputs : O ≡ O′ = a .outputs-are ∙ rw one (sym (b .outputs-are)) in
+    rw (is, inputs, outputs)
+
+-- a reaction to an event
+same-reaction : (line : List ℕ) {s : List ℕ} {state event event′ : ℕ} {r r′ : Reaction} → eventLine line ≡ Is event → eventLine line ≡ Is event′
+    → Reacted s state event r → Reacted s state event′ r′ → r ≡ r′
+same-reaction line {s} {state} {event} {event′} a b c d =
+    let both : Is event ≡ Is event′ = sym a ∙ b in
+    let is : event ≡ event′ = cc in
+    one-reacted s state event c (rw (sym is) at d)
+
+pub one-step : (t : State) {line : List ℕ} {u v : State} {x y : List ℕ} → Steps t line u x → Steps t line v y → SameStep u v x y
+one-step first {line} (sheet-malformed a) (sheet-malformed b) = same
+one-step first {line} (sheet-malformed a) (sheet-refused b d q) = not-both line a b
+one-step first {line} (sheet-malformed a) (sheet-accepted b d q e) = not-both line a b
+one-step first {line} (sheet-refused a c p) (sheet-malformed b) = not-both line b a
+one-step first {line} (sheet-refused a c p) (sheet-refused b d q) =
+    let one = same-sheet line a b c d in
+    record { state = refl; text = ap (λ (r : Answer). refusedText (r .number) (r .place)) (one .answer-same) }
+one-step first {line} (sheet-refused a c p) (sheet-accepted b d q e) =
+    let one = same-sheet line a b c d in
+    absurd (omega (arith, ap (λ (r : Answer). r .number) (one .answer-same)))
+one-step first {line} (sheet-accepted a c p h) (sheet-malformed b) = not-both line b a
+one-step first {line} (sheet-accepted a c p h) (sheet-refused b d q) =
+    let one = same-sheet line a b c d in
+    absurd (omega (arith, ap (λ (r : Answer). r .number) (one .answer-same)))
+one-step first {line} (sheet-accepted a c p h) (sheet-accepted b d q e) =
+    let one = same-sheet line a b c d in
+    record {
+      state = ap running (same-opened (one .bytes-same) h e);
+      text = ap (λ (r : Answer). okText (r .statements) (r .cells)) (one .answer-same);
+    }
+one-step (running h) {line} (event-malformed a) (event-malformed b) = same
+one-step (running h) {line} (event-malformed a) (event-refused b d q) = no-event line a b
+one-step (running h) {line} (event-malformed a) (instant b d q) = no-event line a b
+one-step (running h) {line} (event-refused a c p) (event-malformed b) = no-event line b a
+one-step (running h) {line} (event-refused a c p) (event-refused b d q) =
+    record { state = refl; text = ap (λ (r : Reaction). refusedText (r .number) (r .place)) (same-reaction line a b c d) }
+one-step (running h) {line} (event-refused a c p) (instant b d q) =
+    absurd (omega (arith, ap (λ (r : Reaction). r .number) (same-reaction line a b c d)))
+one-step (running h) {line} (instant a c p) (event-malformed b) = no-event line b a
+one-step (running h) {line} (instant a c p) (event-refused b d q) =
+    absurd (omega (arith, ap (λ (r : Reaction). r .number) (same-reaction line a b c d)))
+one-step (running h) {line} (instant a c p) (instant b d q) =
+    let one = same-reaction line a b c d in
+    record { state = ap (λ (r : Reaction). running (moved h r)) one; text = ap (instantOf h) one }
+one-step stopped after-stop after-stop = same
+
+-- so the contract of a step leaves nothing open: the state that the code's answer and its column mean, the length, and the buffer
+pub record SameAnswer (t t′ : State) (len len′ : ℕ) (out out′ : List ℕ) : Type 0 where
+  pub state : t ≡ t′
+  pub length : len ≡ len′
+  pub buffer : out ≡ out′
+
+pub one-stepped : (t : State) (line out : List ℕ) {r r′ : After} {column column′ after after′ : List ℕ} → Stepped t line r column out after
+    → Stepped t line r′ column′ out after′ → SameAnswer (stateOf (r .trace) column) (stateOf (r′ .trace) column′) (r .len) (r′ .len) after after′
+one-stepped t line out a b =
+    let one = one-step t (a .steps) (b .steps) in
+    record {
+      state = one .state;
+      length = a .written .past ∙ rw (one .text) (sym (b .written .past));
+      buffer = a .written .laid ∙ rw (one .text) (sym (b .written .laid));
+    }
+
+one-printed : (t : State) (lines : List (List ℕ)) {x y : List ℕ} → Printed t lines x → Printed t lines y → x ≡ y
+one-printed t [] no-line no-line = refl
+one-printed t (line ∷ lines) (next-line {t′ = u} a p) (next-line b q) =
+    let one = one-step t a b in
+    ap₂ (λ (x y : List ℕ). x ++ y) (one .text) (one-printed u lines p (rw (sym (one .state)) at q))
+
+-- the whole output of an input
+pub one-output : (input : List ℕ) {x y : List ℕ} → Traced input x → Traced input y → x ≡ y
+one-output input a b = one-printed first _ a b

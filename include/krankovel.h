@@ -1,0 +1,190 @@
+/* Krankovel for C: Pure Esterel sheets are checked, compiled to netlists and run; netlists are checked, run, read and written.
+
+   Build:    rt staticlib c_library        makes target/staticlib/libc_library.a (x86-64 Linux)
+   Link:     cc PROGRAM.c -I include target/staticlib/libc_library.a
+
+   Whatever is handed in is answered, or refused with a number and a place (below). Nothing has to be tested before, and each entry is proved to answer what its
+   contract in crates/krankovel says, for every argument. No entry allocates, keeps anything between two calls, or calls the system: any number of threads may
+   call any of them at a time. Each needs at most 64 KB of stack (docs/SPEED.md has the figure of each).
+
+   A SLICE is a pointer and a length, the number of its elements. The pointer is never null, also where the length is 0: then any other pointer will do, and it is not
+   followed. A pointer to uint64_t is a multiple of 8. A slice that an entry writes (`buffer`, `words`, `signals`, `states`) overlaps no other slice of the same call.
+   Lent slices are written only on acceptance, and only as far as the answer reaches.
+
+   NUMBERS AND PLACES. Every answer has a number, 0 for acceptance, and a place, 0 on acceptance:
+
+     no. name     where                                                                        place
+      1  SHORT    the bytes end                                                                offset of the number begun
+      2  NUMBER   a number's second byte is 0 or over 127                                      the same
+      3  KIND     a kind over 10, or over 6 in a netlist                                       the same
+      4  COUNT    a limit is passed                                                            offset of the second header number, kind, or missing statement
+      5  SCOPE    no such signal here                                                          the operand's offset
+      6  EMIT     tick or an input is emitted                                                  the same
+      7  EXIT     a level that is not 2..1+d, d being the traps around                         the same
+      8  EXTRA    bytes are left over                                                          offset of the first one
+      9  INSTANT  a loop's body may end in the instant it starts                               the first such loop's statement number
+     10  TWICE    a parallel or a signal may live twice in an instant                          the first such one's statement number
+     11  ROOM     over 1,024 cells                                                             0
+     12  CYCLE    a cycle through cells other than registers                                   the lowest cell on one
+     13  EVENT    an event with a bit outside 1..I                                             0
+     14  STATE    a state that does not fit; for a netlist, with bits past its registers       0
+     15  BUFFER   a lent slice is too short                                                    the length needed
+     16  CELL     cells 0..I+1 not as they must be, kinds 0 to 2 elsewhere, an operand that    offset of the kind, operand or count
+                  is no cell, fewer than 2+I+O cells, or something in a field that is not used
+
+   Where a netlist is handed in as words there are no bytes, and what would be an offset is 0. The numbers are looked for in the order 1 to 8 as the bytes are read, then 9, 10,
+   11, 12 (for a netlist 1 to 4 and 16, 8, then 12), then 13, 14, 15. The first one found answers. The counts and signals of a refusal are 0, its state is the one handed in.
+
+   SIGNALS. Signal 0 is tick, then come the I inputs, the O outputs, the locals. In a word signal s is bit s. An event has the inputs that are present, bits 1..I.
+
+   STATES are 64 bits. Of a sheet: bit 0 is boot, bit 1+h is halt h, halts being counted from 0 in reading order. Of a netlist: its registers in cell order. For a compiled
+   sheet these are the same. The fresh state is 0.
+
+   CELLS AS WORDS. A cell is one word, kind + 8*x + 524288*y (kind in bits 0..2, x in bits 3..18, y in bits 19..34):
+
+     kind 0 low        x = y = 0         1 high       x = y = 0                    2 input      x the signal, y = 0
+          3 or x y                       4 and x y                                 5 butnot x y (x and not y)
+          6 register x (the last x, first low)        y = 0
+
+   x and y are numbers of cells, counted from 0, but for an input. Cell 0 is low, cell 1 high, cells 2..I+1 are inputs 1..I, cells I+2..I+O+1 the outputs. */
+#ifndef KRANKOVEL_H
+#define KRANKOVEL_H
+
+#include <stdbool.h>
+#include <stddef.h>
+#include <stdint.h>
+
+#ifdef __cplusplus
+extern "C" {
+#endif
+
+enum {
+    KRANKOVEL_ACCEPTED = 0,
+    KRANKOVEL_SHORT = 1,
+    KRANKOVEL_NUMBER = 2,
+    KRANKOVEL_KIND = 3,
+    KRANKOVEL_COUNT = 4,
+    KRANKOVEL_SCOPE = 5,
+    KRANKOVEL_EMIT = 6,
+    KRANKOVEL_EXIT = 7,
+    KRANKOVEL_EXTRA = 8,
+    KRANKOVEL_INSTANT = 9,
+    KRANKOVEL_TWICE = 10,
+    KRANKOVEL_ROOM = 11,
+    KRANKOVEL_CYCLE = 12,
+    KRANKOVEL_EVENT = 13,
+    KRANKOVEL_STATE = 14,
+    KRANKOVEL_BUFFER = 15,
+    KRANKOVEL_CELL = 16
+};
+
+/* The counts are those of an acceptance; of a netlist that came as a netlist the statements are 0. */
+typedef struct {
+    uint8_t number;
+    size_t place;
+    uint16_t statements;
+    uint16_t cells;
+} krankovel_answer;
+
+/* An answer with the signals that a reaction gives, and the next state. */
+typedef struct {
+    uint8_t number;
+    size_t place;
+    uint16_t statements;
+    uint16_t cells;
+    uint64_t signals;
+    uint64_t state;
+} krankovel_reaction;
+
+/* What reading alone answers; signals with tick. */
+typedef struct {
+    uint8_t number;
+    size_t place;
+    uint16_t statements;
+    uint16_t halts;
+    uint16_t signals;
+} krankovel_reading;
+
+/* An answer with I and O, of a netlist whose cells were handed out. */
+typedef struct {
+    uint8_t number;
+    size_t place;
+    uint16_t statements;
+    uint16_t cells;
+    uint16_t inputs;
+    uint16_t outputs;
+} krankovel_listing;
+
+/* An answer for many events, with the state after the last of them. */
+typedef struct {
+    uint8_t number;
+    size_t place;
+    uint16_t statements;
+    uint16_t cells;
+    uint64_t state;
+} krankovel_course;
+
+/* ---- sheets ---- */
+
+/* Reads a sheet and goes no further. Refusals: 1 to 8. */
+krankovel_reading krankovel_read(const uint8_t *sheet, size_t length);
+
+/* Checks a sheet. Refusals: 1 to 12. */
+krankovel_answer krankovel_check(const uint8_t *sheet, size_t length);
+
+/* Compiles a sheet to a netlist file, in the first bytes of `buffer`. Refusals: 1 to 12; 15, whose place is the file's length: an empty buffer asks for that. No file is longer
+   than 5,116 bytes (4 for the header, 1 for cells 0 and 1 each, 5 for each of 1,022 others). */
+krankovel_answer krankovel_compile(const uint8_t *sheet, size_t length, uint8_t *buffer, size_t room);
+
+/* Compiles a sheet to cells, in the first places of `words`. Refusals: 1 to 12; 15, whose place is the number of cells. */
+krankovel_listing krankovel_compile_cells(const uint8_t *sheet, size_t length, uint64_t *words, size_t room);
+
+/* Whether a state fits a sheet. Refusals: 1 to 12; 14 where it does not. */
+krankovel_answer krankovel_fits(const uint8_t *sheet, size_t length, uint64_t state);
+
+/* Whether a state is at rest: no halt bit is set. */
+bool krankovel_rest(uint64_t state);
+
+/* The reaction of a sheet to an event, by the rules: all signals that are emitted, locals too, and the next state. Refusals: 1 to 12, 13, 14. */
+krankovel_reaction krankovel_react(const uint8_t *sheet, size_t length, uint64_t state, uint64_t event);
+
+/* The same for `count` events one after another; the sheet is checked once. The emissions of each and the state after each go to the first `count` places of `emissions` and `states`.
+   Refusals: 1 to 12; 13 where any event has a bit outside 1..I; 14; 15 where one of the two slices is shorter than `count`, which is the place. */
+krankovel_course krankovel_react_many(const uint8_t *sheet, size_t length, uint64_t state, const uint64_t *events, size_t count,
+    uint64_t *emissions, size_t emissions_room, uint64_t *states, size_t states_room);
+
+/* ---- netlist files ---- */
+
+/* Checks a netlist file. Refusals: 1 to 4, 8, 12, 16. */
+krankovel_answer krankovel_check_file(const uint8_t *file, size_t length);
+
+/* Reads a netlist file to cells, in the first places of `words`. Refusals: as above; 15, whose place is the number of cells. */
+krankovel_listing krankovel_read_file(const uint8_t *file, size_t length, uint64_t *words, size_t room);
+
+/* The reaction of the netlist in a file: its outputs and the next state. Refusals: 1 to 4, 8, 12, 16; 13, 14. */
+krankovel_reaction krankovel_react_file(const uint8_t *file, size_t length, uint64_t state, uint64_t event);
+
+/* The same for many events; the netlist is checked and ordered once. Refusals: 1 to 4, 8, 12, 16; then as krankovel_react_many. */
+krankovel_course krankovel_react_file_many(const uint8_t *file, size_t length, uint64_t state, const uint64_t *events, size_t count,
+    uint64_t *outputs, size_t outputs_room, uint64_t *states, size_t states_room);
+
+/* ---- netlists as words: I, O and the cells. All places but that of CYCLE are 0. ---- */
+
+/* Checks cells. Refusals: 3, 4, 12, 16. */
+krankovel_answer krankovel_check_cells(uint32_t inputs, uint32_t outputs, const uint64_t *words, size_t count);
+
+/* Writes cells to a netlist file, in the first bytes of `buffer`. Refusals: 3, 4, 12, 16; 15, whose place is the file's length. */
+krankovel_answer krankovel_write_cells(uint32_t inputs, uint32_t outputs, const uint64_t *words, size_t count, uint8_t *buffer, size_t room);
+
+/* The reaction of cells: their outputs and the next state. Refusals: 3, 4, 12, 16; 13, 14. */
+krankovel_reaction krankovel_react_cells(uint32_t inputs, uint32_t outputs, const uint64_t *words, size_t count, uint64_t state, uint64_t event);
+
+/* The same for many events; the cells are checked and ordered once. Refusals: 3, 4, 12, 16; then as krankovel_react_many. */
+krankovel_course krankovel_react_cells_many(uint32_t inputs, uint32_t outputs, const uint64_t *words, size_t cells, uint64_t state,
+    const uint64_t *events, size_t count, uint64_t *signals, size_t signals_room, uint64_t *states, size_t states_room);
+
+#ifdef __cplusplus
+}
+#endif
+
+#endif
