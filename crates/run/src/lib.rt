@@ -139,7 +139,7 @@ fn value_of(c: Cell, bit: u16, state: u64, event: u64, values: &[bool]) -> bool
         Cell::Low => false,
         Cell::High => true,
         Cell::Input(s) => bits::member(event, s.number() as u32),
-        Cell::Or(x, y) => net(values, x) || net(values, y),
+        Cell::Or(x, y) => net(values, x) | net(values, y),
         Cell::And(x, y) => net(values, x) && net(values, y),
         Cell::Butnot(x, y) => net(values, x) && !net(values, y),
         Cell::Register(_) => bits::member(state, bit as u32),

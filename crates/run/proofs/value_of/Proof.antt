@@ -33,7 +33,7 @@ net-requires c κs =
 
 net-requires-2 : tie.Need-net-requires-2
 net-requires-2 c κs =
-    let at-c2 = c .before .before .before in
+    let at-c2 = c .before .before in
     let start = at-c2 .before .before .before in
     start .pre (at-c2 .c2 .given .0 .1 .0) (rw (at-c2 .c2 .given .1) (inr refl))
 
@@ -85,38 +85,32 @@ returns-3 c =
 returns-4 : tie.Need-returns-4
 returns-4 c =
     let at-c2 = c .before .before .before in
-    rw (at-c2 .c2 .given .1, ← (c .before .net .ensures), c .if1 .taken)
+    rw (at-c2 .c2 .given .1, c .before .net .ensures, c .net2 .ensures)
 
 returns-5 : tie.Need-returns-5
 returns-5 c =
-    let at-net = c .before .before in
-    let at-c2 = at-net .before .before in
-    rw (at-c2 .c2 .given .1, ← (at-net .net .ensures), c .before .if1 .left) (c .net2 .ensures)
+    let at-net3 = c .before .before in
+    let at-c3 = at-net3 .before .before in
+    rw (at-c3 .c3 .given .1, ← (at-net3 .net3 .ensures), c .before .if1 .taken) (c .net4 .ensures)
 
 returns-6 : tie.Need-returns-6
 returns-6 c =
-    let at-net3 = c .before .before in
-    let at-c3 = at-net3 .before .before in
-    rw (at-c3 .c3 .given .1, ← (at-net3 .net3 .ensures), c .before .if2 .taken) (c .net4 .ensures)
+    let at-c3 = c .before .before .before in
+    rw (at-c3 .c3 .given .1, ← (c .before .net3 .ensures), c .if1 .left)
 
 returns-7 : tie.Need-returns-7
 returns-7 c =
-    let at-c3 = c .before .before .before in
-    rw (at-c3 .c3 .given .1, ← (c .before .net3 .ensures), c .if2 .left)
+    let at-net5 = c .before .before in
+    let at-c4 = at-net5 .before .before in
+    rw (at-c4 .c4 .given .1, ← (at-net5 .net5 .ensures), c .before .if2 .taken, c .net6 .ensures)
 
 returns-8 : tie.Need-returns-8
 returns-8 c =
-    let at-net5 = c .before .before in
-    let at-c4 = at-net5 .before .before in
-    rw (at-c4 .c4 .given .1, ← (at-net5 .net5 .ensures), c .before .if3 .taken, c .net6 .ensures)
+    let at-c4 = c .before .before .before in
+    rw (at-c4 .c4 .given .1, ← (c .before .net5 .ensures), c .if2 .left)
 
 returns-9 : tie.Need-returns-9
-returns-9 c =
-    let at-c4 = c .before .before .before in
-    rw (at-c4 .c4 .given .1, ← (c .before .net5 .ensures), c .if3 .left)
-
-returns-10 : tie.Need-returns-10
-returns-10 c = rw (c .before .enum-told3 .given .1) (c .member2 .ensures)
+returns-9 c = rw (c .before .enum-told3 .given .1) (c .member2 .ensures)
 
 pub value-of-spec : {M : Type 1} → statement M
 value-of-spec =
@@ -147,5 +141,4 @@ value-of-spec =
     returns-6
     returns-7
     returns-8
-    returns-9
-    returns-10)
+    returns-9)
