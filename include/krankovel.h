@@ -4,7 +4,7 @@
    Link:     cc PROGRAM.c -I include target/staticlib/libc_library.a
 
    Whatever is handed in is answered, or refused with a number and a place (below). Nothing has to be tested before, and each entry is proved to answer what its
-   contract in crates/krankovel says, for every argument. No entry allocates, keeps anything between two calls, or calls the system: any number of threads may
+   contract in crates/c_library says, for every argument. No entry allocates, keeps anything between two calls, or calls the system: any number of threads may
    call any of them at a time. Each needs at most 64 KB of stack (docs/SPEED.md has the figure of each).
 
    A SLICE is a pointer and a length, the number of its elements. The pointer is never null, also where the length is 0: then any other pointer will do, and it is not

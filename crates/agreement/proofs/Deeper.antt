@@ -15,8 +15,8 @@ use Rattle.sheet.specs.Stmt.{Stmt, leaf, one, two}
 use Rattle.rules.specs.Rules.{Signals}
 use Rattle.rules.specs.States.{State}
 use Rattle.gates.specs.declared.Cell.{Cell}
-use Rattle.builder.specs.Equations.{buildEmit, buildHalt, build}
-use Rattle.builder.specs.Equations.{buildSequence, buildLoop, buildPresent, buildWatching, buildParallel, buildTrap}
+use Rattle.parts.specs.Equations.{buildEmit, buildHalt, build}
+use Rattle.parts.specs.Equations.{buildSequence, buildLoop, buildPresent, buildWatching, buildParallel, buildTrap}
 use Rattle.builder.proofs.Places.{Pins, built, onePins, leftPins, rightPins, Part, itself, in-one, in-left, in-right, part-stands}
 use Rattle.agreement.proofs.Nets.{Solved, solved-left, solved-right}
 

@@ -14,7 +14,7 @@ use Rattle.sets.specs.Static.{K, R, hasHalts}
 use Rattle.sets.specs.Faults.{orElse, instant, climbs, firstFault, twice}
 use Rattle.gates.specs.Cells.{orAt, andAt, butnotAt}
 use Rattle.gates.specs.Rows.{orRow, pairs, highest, parallelRow}
-use Rattle.builder.specs.Equations.{build, buildHalt, buildEmit, buildSequence, buildLoop, buildPresent, buildWatching, buildParallel, buildTrap}
+use Rattle.parts.specs.Equations.{build, buildHalt, buildEmit, buildSequence, buildLoop, buildPresent, buildWatching, buildParallel, buildTrap}
 use Rattle.builder.specs.Netlist.{netlist, sheetNetlist, rootOf, inputCells, signalCells}
 use Rattle.order.specs.Paths.{Ordered}
 use Rattle.order.proofs.ByTest.{every, inOrder, ordered}

@@ -25,7 +25,7 @@ use Rattle.gates.specs.declared.Cell.{Cell}
 use Rattle.gates.specs.declared.Cell.the-variants.{Low, High, Or, Butnot, Register}
 use Rattle.gates.specs.Cells.{low, high, signalCell}
 use Rattle.gates.specs.Values.{cellAt, value}
-use Rattle.builder.specs.Equations.{listOf}
+use Rattle.parts.specs.Equations.{listOf}
 use Rattle.builder.specs.Netlist.{inputCells, signalCells, netlist}
 use Rattle.builder.proofs.Ends.{length-inputs, length-signals}
 use Rattle.builder.proofs.Format.{root, input-at, boot-split}

@@ -21,7 +21,7 @@ use Rattle.gates.specs.declared.Cell.the-variants.{Or, And, Butnot}
 use Rattle.gates.specs.Cells.{low, isLow, New, old, new, orAt, andAt, butnotAt}
 use Rattle.gates.specs.Rows.{code, only, orRow, onlyIf}
 use Rattle.gates.specs.Values.{cellAt, before, value}
-use Rattle.builder.specs.Equations.{listOf}
+use Rattle.parts.specs.Equations.{listOf}
 
 -- The cells cs stand in the netlist `cells` from number n on, and v has the value that each asks for, with the inputs J in the state S.
 unfoldable pub Solved : List Cell → Signals → State → (CellNo → Bool) → ℕ → List Cell → Type 0

@@ -27,8 +27,8 @@ use Rattle.gates.specs.Cells.{low, New, orAt, andAt, butnotAt, signalCell}
 use Rattle.gates.specs.Rows.{code, withCode0, Row, orRow, trapRow, pairs, Highest, parallelRow, killOf}
 use Rattle.gates.specs.Values.{cellAt, before}
 use Rattle.gates.proofs.OrRow.{with-code0-at, trap-at}
-use Rattle.builder.specs.Equations.{Built, listOf, past, given, buildExit, buildEmit, buildHalt}
-use Rattle.builder.specs.Equations.{buildSequence, buildLoop, buildPresent, buildWatching, buildParallel, buildTrap}
+use Rattle.parts.specs.Equations.{Built, listOf, past, given, buildExit, buildEmit, buildHalt}
+use Rattle.parts.specs.Equations.{buildSequence, buildLoop, buildPresent, buildWatching, buildParallel, buildTrap}
 use Rattle.agreement.proofs.Sound.{NoTwice, Sound, sound-one, sound-left, sound-right, sequence-side, present-side}
 use Rattle.agreement.proofs.Runs.{Runs, either-within}
 use Rattle.agreement.proofs.LeafRuns.{nothing-runs, emit-runs, exit-runs, halt-runs}

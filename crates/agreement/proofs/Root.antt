@@ -28,7 +28,7 @@ use Rattle.gates.specs.declared.Cell.{Cell}
 use Rattle.gates.specs.declared.Cell.the-variants.{Low, High, Input, Or, And, Butnot, Register}
 use Rattle.gates.specs.Cells.{low, high, signalCell}
 use Rattle.gates.specs.Values.{cellAt, registers, before, value, operands, nextOf}
-use Rattle.builder.specs.Equations.{Built, listOf}
+use Rattle.parts.specs.Equations.{Built, listOf}
 use Rattle.builder.specs.Netlist.{noLists, inputCells, signalCells, rootOf, netlist}
 use Rattle.builder.proofs.Ends.{length-inputs, length-signals}
 use Rattle.builder.proofs.Places.{built}

@@ -19,10 +19,10 @@ use Rattle.rules.specs.States.{State, haltsOf}
 use Rattle.rules.proofs.Again.{Disjoint, sides-disjoint}
 use Rattle.gates.specs.declared.Cell.{Cell}
 use Rattle.gates.specs.Cells.{low}
-use Rattle.builder.specs.Equations.{Built, given, build}
+use Rattle.parts.specs.Equations.{Built, given, build}
 use Rattle.builder.specs.Netlist.{netlist}
-use Rattle.builder.specs.Contract.{Opening, closeOne, openTwo, closeTwo, goOf}
-use Rattle.builder.proofs.Parts.{build-one, build-two}
+use Rattle.parts.specs.Contract.{Opening, closeOne, openTwo, closeTwo, goOf}
+use Rattle.parts.proofs.Parts.{build-one, build-two}
 use Rattle.builder.proofs.Places.{Pins, built, onePins, leftPins, rightPins}
 use Rattle.builder.proofs.Format.{rootPins, halt-register}
 use Rattle.agreement.proofs.Sound.{Sound, sound-one, sound-left, sound-right}

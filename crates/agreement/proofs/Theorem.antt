@@ -7,9 +7,8 @@
 use mathlib.Core.Path.{_≡_, refl, sym, _∙_, ap, ap₂, subst, fun-ext}
 use mathlib.Core.Bool.{Bool, true}
 use mathlib.Core.List.{List, [], _∷_}
-use Prim.Native.Nat.{ℕ, _≤_}
+use Prim.Native.Nat.{ℕ}
 use Rattle.number.specs.declared.CellNo.{CellNo}
-use Rattle.number.specs.declared.SignalNo.{SignalNo}
 use Rattle.sheet.specs.Stmt.{Stmt}
 use Rattle.sheet.specs.Read.{Sheet}
 use Rattle.rules.specs.Rules.{Signals}

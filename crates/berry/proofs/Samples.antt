@@ -24,7 +24,7 @@ use Rattle.rules.specs.Rules.{Signals, Halts, onlyHalt, start, active, resume}
 use Rattle.rules.specs.States.{tick, react, noBits, apart, fits, Event, Agrees}
 use Rattle.gates.specs.Cells.{orAt, andAt, butnotAt}
 use Rattle.gates.specs.Rows.{orRow, pairs, highest, parallelRow}
-use Rattle.builder.specs.Equations.{build, buildHalt, buildEmit, buildSequence, buildLoop, buildPresent, buildWatching, buildParallel, buildTrap}
+use Rattle.parts.specs.Equations.{build, buildHalt, buildEmit, buildSequence, buildLoop, buildPresent, buildWatching, buildParallel, buildTrap}
 use Rattle.builder.specs.Netlist.{netlist, sheetNetlist, rootOf, inputCells, signalCells}
 use Rattle.order.specs.Paths.{Ordered}
 use Rattle.compiler.specs.Check.{unless, roomy, judged, judge, Accepted, accepted}

@@ -121,11 +121,3 @@ ext a b f = upto (a + b) a b (omega arith) (omega arith) f
         let higher : (j : ℕ) → has (a / 2) j ≡ has (b / 2) j = λ j. half-bit a j ∙ f (1 + j) ∙ sym (half-bit b j) in
         let rest : a / 2 ≡ b / 2 = upto m (a / 2) (b / 2) (omega arith) (omega arith) higher in
         omega arith
-
--- two words below 2 ^ n with the same members below n are equal
-pub ext-below : (n a b : ℕ) → a < 2 ^ n → b < 2 ^ n → ((j : ℕ) → j < n → has a j ≡ has b j) → a ≡ b
-ext-below n a b ha hb f = ext a b (λ j. go j (decLt j n))
-  where
-    go : (j : ℕ) → Dec (j < n) → has a j ≡ has b j
-    go j (yes h) = f j h
-    go j (no h) = has-past n a j ha (omega arith) ∙ sym (has-past n b j hb (omega arith))

@@ -18,8 +18,8 @@ use Rattle.gates.specs.Cells.{New, low, orAt, andAt, butnotAt, signalCell}
 use Rattle.gates.specs.Rows.{code, withCode0, Row, orRow, pairs, Highest, parallelRow}
 use Rattle.gates.proofs.Operands.{AllWithin, NetsBelow, append-within, or-within, and-within, butnot-within, only-within, with-code0-within, trap-within}
 use Rattle.gates.proofs.Operands.{or-row-within, parallel-row-within}
-use Rattle.builder.specs.Equations.{Built, listOf, past, given, buildExit, buildEmit, buildHalt, build}
-use Rattle.builder.specs.Equations.{buildSequence, buildLoop, buildPresent, buildWatching, buildParallel, buildTrap}
+use Rattle.parts.specs.Equations.{Built, listOf, past, given, buildExit, buildEmit, buildHalt, build}
+use Rattle.parts.specs.Equations.{buildSequence, buildLoop, buildPresent, buildWatching, buildParallel, buildTrap}
 
 pub record BuiltWithin (s m : ℕ) (o : Built) : Type 0 where
   pub operands : AllWithin s m (o .cells)

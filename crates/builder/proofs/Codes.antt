@@ -17,8 +17,8 @@ use Rattle.sheet.proofs.Notions.{Exits}
 use Rattle.gates.specs.Cells.{New, low, andAt, butnotAt, signalCell}
 use Rattle.gates.specs.Rows.{code, withCode0}
 use Rattle.gates.proofs.LowAbove.{LowAbove, only-low, with-code0-low, trap-low, or-row-low, parallel-low}
-use Rattle.builder.specs.Equations.{Built, past, given, buildEmit, buildHalt, build}
-use Rattle.builder.specs.Equations.{buildSequence, buildLoop, buildPresent, buildWatching, buildParallel, buildTrap}
+use Rattle.parts.specs.Equations.{Built, past, given, buildEmit, buildHalt, build}
+use Rattle.parts.specs.Equations.{buildSequence, buildLoop, buildPresent, buildWatching, buildParallel, buildTrap}
 
 module _ (d : ℕ) where
   emit-low : (s : SignalNo) (n : ℕ) (g : CellNo) (L : List CellNo) → LowAbove d ((buildEmit s n g L) .codes)

@@ -27,9 +27,10 @@ use Rattle.gates.specs.Store.{word, Wrote}
 use Rattle.gates.proofs.Laws.{wrote-more, set-below}
 use Rattle.builder.specs.declared.NetlistBuilt.{NetlistBuilt}
 use Rattle.builder.specs.declared.NetlistBuilt.the-variants.{Cells, Refused}
-use Rattle.builder.specs.Equations.{Built, listOf}
+use Rattle.parts.specs.Equations.{Built, listOf}
 use Rattle.builder.specs.Netlist.{inputCells, signalCells, rootOf, bootCells, netlist}
-use Rattle.builder.specs.Contract.{nets, Builds, UnaryNamed, BinaryNamed, Named, Fit, Ready, Does, OfSheet, SomeSheet, roomFor, Whole, DoesNetlist}
+use Rattle.parts.specs.Contract.{nets, Builds, UnaryNamed, BinaryNamed}
+use Rattle.builder.specs.Contract.{Named, Fit, Ready, Does, OfSheet, SomeSheet, roomFor, Whole, DoesNetlist}
 
 -- The loops: what is left to be written, once written, makes the whole. First that over the inputs, at signal s:
 pub record Inputs (l₀ l : List ℕ) (I s : ℕ) : Type 0 where

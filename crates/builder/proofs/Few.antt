@@ -1,5 +1,5 @@
 -- At most 32 cells for each statement, and ten codes. A parallel makes the most: Q, sel and three for each code.
-use Prim.Native.Nat.{ℕ, suc, _+_, _-_, _*_, _≤_, _<_}
+use Prim.Native.Nat.{ℕ, suc, _+_, _*_, _≤_, _<_}
 use mathlib.Core.Path.{_≡_, refl, sym, ap, _∙_}
 use mathlib.Core.Bool.{Bool, true, false}
 use mathlib.Core.List.{List, [], _∷_, _++_}
@@ -20,8 +20,8 @@ use Rattle.gates.specs.Cells.{New, low, isLow, orAt, andAt, butnotAt, signalCel
 use Rattle.gates.specs.Rows.{code, only, withCode0, trapRow, Row, orRow, pairs, onlyIf, Level, levelAt, lastAt, Highest, highest, parallelRow}
 use Rattle.gates.proofs.Laws.{gate}
 use Rattle.gates.proofs.ParallelRow.{pairs-length}
-use Rattle.builder.specs.Equations.{Built, listOf, past, given, buildExit, buildEmit, buildHalt, build}
-use Rattle.builder.specs.Equations.{buildSequence, buildLoop, buildPresent, buildWatching, buildParallel, buildTrap}
+use Rattle.parts.specs.Equations.{Built, listOf, past, given, buildExit, buildEmit, buildHalt, build}
+use Rattle.parts.specs.Equations.{buildSequence, buildLoop, buildPresent, buildWatching, buildParallel, buildTrap}
 
 -- a gate makes one cell at most
 gate-few : (n : ℕ) (a b : Bool) (u v : CellNo) (c : Cell) → length ((gate n a b u v c) .cells) ≤ 1

@@ -22,7 +22,7 @@ use Rattle.sets.proofs.Bounds.{exits-low}
 use Rattle.gates.specs.Store.{word}
 use Rattle.gates.specs.Values.{cellAt, registers, before}
 use Rattle.gates.proofs.Operands.{AllWithin, NetsBelow, append-within}
-use Rattle.builder.specs.Equations.{Built, listOf, buildHalt, build}
+use Rattle.parts.specs.Equations.{Built, listOf, buildHalt, build}
 use Rattle.builder.specs.Netlist.{inputCells, signalCells, noLists, rootOf, bootCells, netlist}
 use Rattle.builder.proofs.Ends.{length-inputs, length-signals}
 use Rattle.builder.proofs.Gates.{Gates, gates-nil, gates-cons, gates-append, build-gates}

@@ -17,8 +17,8 @@ use Rattle.gates.specs.declared.Cell.the-variants.{Low, High, Input, Or, And, B
 use Rattle.gates.specs.Cells.{low, isLow, New, orAt, andAt, butnotAt, signalCell}
 use Rattle.gates.specs.Rows.{code, orRow, onlyIf, highest, parallelRow}
 use Rattle.gates.proofs.Laws.{gate}
-use Rattle.builder.specs.Equations.{Built, listOf, past, given, buildEmit, buildHalt, build}
-use Rattle.builder.specs.Equations.{buildSequence, buildLoop, buildPresent, buildWatching, buildParallel, buildTrap}
+use Rattle.parts.specs.Equations.{Built, listOf, past, given, buildEmit, buildHalt, build}
+use Rattle.parts.specs.Equations.{buildSequence, buildLoop, buildPresent, buildWatching, buildParallel, buildTrap}
 
 -- kinds 3 to 6
 abbrev pub isGate : Cell → Bool

@@ -1,6 +1,5 @@
-pub mod Laws
 pub mod Few
-pub mod Parts
+pub mod Walk
 pub mod Ends
 pub mod Codes
 pub mod Closed

@@ -1,6 +1,6 @@
 -- Where the cells of a statement's parts stand: from their first number on, with a register before them for each halt before the part. So the
 -- registers stand in the order boot, halt 0, halt 1, ..
-use mathlib.Core.Path.{_≡_, refl, sym, _∙_, ap, subst⁻¹}
+use mathlib.Core.Path.{_≡_, refl, sym, _∙_, ap, subst, subst⁻¹}
 use mathlib.Core.Bool.{Bool}
 use mathlib.Core.List.{List, [], _∷_, _++_, append-assoc, append-nil}
 use Prim.Native.Nat.{ℕ, _+_}
@@ -23,10 +23,10 @@ use Rattle.gates.specs.declared.Cell.the-variants.{Or}
 use Rattle.gates.specs.Cells.{New, orAt, andAt, butnotAt, signalCell}
 use Rattle.gates.specs.Rows.{code}
 use Rattle.gates.specs.Values.{registers}
-use Rattle.builder.specs.Equations.{Built, past, given, build}
-use Rattle.builder.specs.Equations.{buildSequence, buildLoop, buildPresent, buildWatching, buildParallel, buildTrap}
-use Rattle.builder.specs.Contract.{Opening, openOne, closeOne, openTwo, closeTwo, goOf}
-use Rattle.builder.proofs.Parts.{build-one, build-two}
+use Rattle.parts.specs.Equations.{Built, past, given, build}
+use Rattle.parts.specs.Equations.{buildSequence, buildLoop, buildPresent, buildWatching, buildParallel, buildTrap}
+use Rattle.parts.specs.Contract.{Opening, openOne, closeOne, openTwo, closeTwo, goOf}
+use Rattle.parts.proofs.Parts.{build-one, build-two}
 use Rattle.builder.proofs.Registers.{registers-append, none-and, none-butnot, of-build}
 
 -- what a statement is built with
@@ -66,6 +66,9 @@ pub record Stands (cs : List Cell) (n : ℕ) (ps : List Cell) (m k : ℕ) : Type
 
 stands-as : {cs cs′ ps : List Cell} {n m k : ℕ} → cs ≡ cs′ → Stands cs′ n ps m k → Stands cs n ps m k
 stands-as {cs} {cs′} {ps} {n} {m} {k} e s = subst⁻¹ (λ (w : List Cell). Stands w n ps m k) e s
+
+stands-after : {cs ps : List Cell} {n m j k : ℕ} → j ≡ k → Stands cs n ps m j → Stands cs n ps m k
+stands-after {cs} {ps} {n} {m} e s = subst (λ (w : ℕ). Stands cs n ps m w) e s
 
 stands-in : {cs ps qs : List Cell} {n m m′ j k : ℕ} → Stands cs n ps m j → Stands ps m qs m′ k → Stands cs n qs m′ (j + k)
 stands-in {cs} {ps} {qs} {n} {m} {m′} {j} {k} a b =
@@ -164,15 +167,15 @@ pub part-stands : {t p : Stmt} {w w′ : Pins} {k : ℕ} → Part t w p w′ k �
 part-stands (itself t w) =
     record { earlier = []; later = []; is = rw (append-nil ((built t w) .cells)) refl; place = omega arith; order = none }
 part-stands (in-one {u} {p} {t} {w} {w′} {k} s) =
-    rw (← (zero-add k)) (stands-in (stands-as (ap (λ (o : Built). o .cells) (build-one u p (w .first) (w .go) (w .res) (w .kill) (w .lists)))
+    stands-after (zero-add k) (stands-in (stands-as (ap (λ (o : Built). o .cells) (build-one u p (w .first) (w .go) (w .res) (w .kill) (w .lists)))
     (closed-one u (w .first) (w .go) (w .res) (w .kill) (built p (onePins u w)))) (part-stands s))
 part-stands (in-left {b} {p} {q} {t} {w} {w′} {k} s) =
-    rw (← (zero-add k)) (stands-in (stands-as (ap (λ (o : Built). o .cells) (build-two b p q (w .first) (w .go) (w .res) (w .kill) (w .lists)))
+    stands-after (zero-add k) (stands-in (stands-as (ap (λ (o : Built). o .cells) (build-two b p q (w .first) (w .go) (w .res) (w .kill) (w .lists)))
     (closed-left b (given (two b p q)) (w .first) (w .go) (w .res) (w .kill) (built p (leftPins b w)) (built q (rightPins b p w)))) (part-stands s))
 part-stands (in-right {b} {p} {q} {t} {w} {w′} {k} s) =
     let left : Pins = leftPins b w in
     let count : registers ((built p left) .cells) ≡ haltCount p = of-build p (left .first) (left .go) (left .res) (left .kill) (left .lists) in
-    rw (← count) (stands-in (stands-as (ap (λ (o : Built). o .cells) (build-two b p q (w .first) (w .go) (w .res) (w .kill) (w .lists)))
+    stands-after (ap (λ (x : ℕ). x + k) count) (stands-in (stands-as (ap (λ (o : Built). o .cells) (build-two b p q (w .first) (w .go) (w .res) (w .kill) (w .lists)))
     (closed-right b (given (two b p q)) (w .first) (w .go) (w .res) (w .kill) (built p left) (built q (rightPins b p w)))) (part-stands s))
 
 -- the halts before it are those with lower numbers

@@ -19,8 +19,8 @@ use Rattle.gates.specs.declared.Cell.the-variants.{Low, High, Input, Or, And, B
 use Rattle.gates.specs.Cells.{low, isLow, New, old, new, orAt, andAt, butnotAt, signalCell}
 use Rattle.gates.specs.Rows.{code, orRow, onlyIf, highest, parallelRow}
 use Rattle.gates.specs.Values.{tally, registers}
-use Rattle.builder.specs.Equations.{Built, given, buildEmit, buildHalt, build}
-use Rattle.builder.specs.Equations.{buildSequence, buildLoop, buildPresent, buildWatching, buildParallel, buildTrap}
+use Rattle.parts.specs.Equations.{Built, given, buildEmit, buildHalt, build}
+use Rattle.parts.specs.Equations.{buildSequence, buildLoop, buildPresent, buildWatching, buildParallel, buildTrap}
 
 tally-plus : (c : Cell) (k m : ℕ) → tally c (k + m) ≡ tally c k + m
 tally-plus Low k m = refl

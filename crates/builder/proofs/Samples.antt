@@ -13,7 +13,7 @@ use Rattle.gates.specs.declared.Cell.{Cell}
 use Rattle.gates.specs.declared.Cell.the-variants.{Low, High, Input, Or, And, Butnot, Register}
 use Rattle.gates.specs.Cells.{orAt, andAt, butnotAt}
 use Rattle.gates.specs.Rows.{orRow, pairs, highest, parallelRow}
-use Rattle.builder.specs.Equations.{build, buildHalt, buildEmit, buildSequence, buildLoop, buildPresent, buildWatching, buildParallel, buildTrap}
+use Rattle.parts.specs.Equations.{build, buildHalt, buildEmit, buildSequence, buildLoop, buildPresent, buildWatching, buildParallel, buildTrap}
 use Rattle.builder.specs.Netlist.{netlist, rootOf, inputCells, signalCells, sheetNetlist}
 
 -- the numbers of a file: I, O, the cell count, then each cell's kind and operands

@@ -1,4 +1,4 @@
--- The whole netlist: its head, the signals' cells, the root's cells.
+-- "Equations", of the whole netlist: its head, the signals' cells, the root's cells. What a statement builds is `build`, in `parts`.
 use mathlib.Core.List.{List, [], _∷_, _++_}
 use Prim.Native.Nat.{ℕ, zero, suc, _+_}
 use lib.ListN.{replicate}
@@ -9,7 +9,7 @@ use Rattle.sheet.specs.Read.{Sheet}
 use Rattle.gates.specs.declared.Cell.{Cell}
 use Rattle.gates.specs.declared.Cell.the-variants.{Low, High, Input, Or, Butnot, Register}
 use Rattle.gates.specs.Cells.{low, high}
-use Rattle.builder.specs.Equations.{Built, listOf, build}
+use Rattle.parts.specs.Equations.{Built, listOf, build}
 
 -- "cells 2..I+1 inputs": k of them, from signal s on
 unfoldable pub inputCells : ℕ → ℕ → List Cell

@@ -10,11 +10,12 @@ ghost use Rattle.sheet.specs.Read.{readSheet};
 ghost use Rattle.rules.specs.States.{atRest};
 ghost use Rattle.files.specs.Read.{readFile};
 ghost use Rattle.netlists.specs.Words.{judgeCells};
-ghost use Rattle.krankovel.specs.Sheets.{readingOf, Checked, Fitting, Reacted};
-ghost use Rattle.krankovel.specs.Files.{Written, NetWritten};
-ghost use Rattle.krankovel.specs.Cells.{Listed, NetListed};
-ghost use Rattle.krankovel.specs.Netlists.{NetChecked, NetReacted};
-ghost use Rattle.krankovel.specs.Many.{ReactedMany, NetReactedMany};
+ghost use Rattle.sheet_entries.specs.Sheets.{readingOf, Checked, Fitting, Reacted};
+ghost use Rattle.netlist_entries.specs.Files.{NetWritten};
+ghost use Rattle.netlist_entries.specs.Cells.{NetListed};
+ghost use Rattle.netlist_entries.specs.Netlists.{NetChecked, NetReacted};
+ghost use Rattle.compile_entries.specs.Compile.{Written, Listed};
+ghost use Rattle.many_entries.specs.Many.{ReactedMany, NetReactedMany};
 
 #[no_mangle]
 pub extern "C" fn krankovel_read(s: &[u8]) -> Reading

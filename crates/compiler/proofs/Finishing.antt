@@ -12,26 +12,21 @@ use Rattle.sheet.specs.declared.Counts.{Counts}
 use Rattle.gates.specs.Store.{cellIn}
 use Rattle.order.specs.declared.Ordering.{Ordering}
 use Rattle.order.specs.declared.Ordering.the-variants.{Found, Cycle}
-use Rattle.order.specs.Paths.{cellsOf, Lent, Answers}
+use Rattle.order.specs.Paths.{cellsOf, Closed, Orderable, Answers}
 use Rattle.compiler.specs.declared.Compiled.the-variants.{Program, Refused}
-use Rattle.compiler.specs.Compile.{Searchable, Finishes, found, cycle}
+use Rattle.compiler.specs.Compile.{Finishes, found, cycle}
 
-module _ (words : List ℕ) {marks stack order : List ℕ} (h : Searchable (length words) marks stack order) where
-  count : length (cellsOf words) ≡ length words
-  count = length-map words cellIn
-
-  pub lent : Lent (cellsOf words) marks stack
-  lent = record { few = omega (arith, count, h .few); wide = omega (arith, count, h .marks-long); deep = omega (arith, count, h .stack-long) }
-
-  pub places : length (cellsOf words) ≤ length order
-  places = omega (arith, count, h .order-long)
+pub orderable : (words : List ℕ) {order : List ℕ} → Closed (cellsOf words) → length words ≤ 1024 → length order ≡ 1024 → Orderable (cellsOf words) order
+orderable words closed few places =
+    let count : length (cellsOf words) ≡ length words = length-map words cellIn in
+    record { closed = closed; few = omega arith; long = omega arith }
 
 module _ (words : List ℕ) {order : List ℕ} {c : Counts} {r : Ordering} (a : Answers (cellsOf words) order r) where
-  pub finishes-found : r ≡ Found → {n : ℕ} → n ≡ length words → Finishes (cellsOf words) c (Program c n) order
+  pub finishes-found : r ≡ Found → {n : ℕ} → n ≡ length words → Finishes (cellsOf words) c (Program c n)
   finishes-found e {n} counted =
       let all : length (cellsOf words) ≡ n = length-map words cellIn ∙ sym counted in
-      subst (λ (k : ℕ). Finishes (cellsOf words) c (Program c k) order) all (found (a .found e))
+      subst (λ (k : ℕ). Finishes (cellsOf words) c (Program c k)) all (found (a .found e))
 
-  pub finishes-cycle : {x : CellNo} → r ≡ Cycle x → {p : ℕ} → p ≡ ofCell x → Finishes (cellsOf words) c (Refused (fault CycleFault p)) order
+  pub finishes-cycle : {x : CellNo} → r ≡ Cycle x → {p : ℕ} → p ≡ ofCell x → Finishes (cellsOf words) c (Refused (fault CycleFault p))
   finishes-cycle {x} e place =
-      subst (λ (k : ℕ). Finishes (cellsOf words) c (Refused (fault CycleFault k)) order) (sym place) (cycle (a .cycle x e))
+      subst (λ (k : ℕ). Finishes (cellsOf words) c (Refused (fault CycleFault k))) (sym place) (cycle (a .cycle x e))

@@ -1,20 +1,19 @@
 -- INSTANT, TWICE and ROOM of a sheet that was read: what the walks over its rows answer makes the definition's answer.
-use mathlib.Core.Path.{_≡_, refl, sym, ap, _∙_, subst}
+use mathlib.Core.Path.{_≡_, refl, sym, _∙_, subst}
 use mathlib.Core.Bool.{Bool, true, false}
-use mathlib.Core.List.{List, map}
-use Prim.Native.Nat.{ℕ, _+_, _≤_}
+use mathlib.Core.List.{List}
+use Prim.Native.Nat.{ℕ, _≤_}
 use native.Mathlib.Omega.{arith}
 use lib.Dec.{ltb}
 use lib.ListN.{length}
-use lib.Seq.{sets}
-use Rattle.number.specs.declared.Refusal.the-variants.{Instant, Twice, Room}
+use Rattle.number.specs.declared.Refusal.the-variants.{Instant, Twice}
 use Rattle.number.specs.declared.StmtNo.{StmtNo}
 use Rattle.number.specs.Counts.{stmtNo, ofStmt, haltNo}
 use Rattle.number.specs.Number.{pick}
 use Rattle.number.specs.Refusals.{fault}
 use Rattle.sheet.specs.declared.Counts.{Counts}
 use Rattle.sheet.specs.Stmt.{Stmt}
-use Rattle.sheet.specs.Read.{Sheet, SheetOutcome, sheet, faulty}
+use Rattle.sheet.specs.Read.{Sheet}
 use Rattle.sheet.proofs.Notions.{proper-exits}
 use Rattle.sets.specs.declared.Both.{Both}
 use Rattle.sets.specs.declared.Found.{Found}
@@ -23,14 +22,13 @@ use Rattle.sets.specs.Faults.{instant, twice}
 use Rattle.sets.specs.Words.{Stands, Kept, Filled}
 use Rattle.sets.proofs.Bounds.{exits-low}
 use Rattle.sets.proofs.Columns.{kept-filled}
-use Rattle.gates.specs.Store.{word}
 use Rattle.builder.specs.declared.NetlistBuilt.{NetlistBuilt}
 use Rattle.builder.specs.declared.NetlistBuilt.the-variants.{Refused}
-use Rattle.builder.specs.Netlist.{netlist, sheetNetlist}
+use Rattle.builder.specs.Netlist.{sheetNetlist}
 use Rattle.builder.specs.Contract.{OfSheet, SomeSheet, roomFor, Whole, DoesNetlist}
 use Rattle.compiler.specs.Check.{unless, roomy, judged}
 use Rattle.compiler.proofs.Passing.{faulty-sheet}
-use Rattle.compiler.specs.Compile.{ReadAs, SomeRead, builtOf, Judges, JudgesRead}
+use Rattle.compiler.specs.Compile.{ReadAs, builtOf, Judges}
 
 abbrev root : StmtNo
 root = stmtNo 0

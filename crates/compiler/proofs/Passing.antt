@@ -1,5 +1,5 @@
 -- What is so of a sheet that has none of the faults 1 to 11.
-use mathlib.Core.Path.{_≡_, refl, sym, ap, _∙_, subst}
+use mathlib.Core.Path.{_≡_, refl, ap, _∙_, subst}
 use mathlib.Core.Bool.{Bool, true, false}
 use mathlib.Core.List.{List}
 use Prim.Native.Nat.{ℕ, _≤_}
@@ -9,14 +9,14 @@ use borrow.Author.Tests.{ltb-false}
 use lib.ListN.{length}
 use Rattle.number.specs.declared.Fault.{Fault}
 use Rattle.number.specs.declared.Refusal.{Refusal}
-use Rattle.number.specs.declared.Refusal.the-variants.{Instant, Twice, Room}
+use Rattle.number.specs.declared.Refusal.the-variants.{Instant, Twice}
 use Rattle.number.specs.Counts.{stmtNo}
 use Rattle.number.specs.Number.{pick}
 use Rattle.sheet.specs.Read.{Sheet, SheetOutcome, sheet, faulty, readSheet}
 use Rattle.sets.specs.declared.Found.{Found}
 use Rattle.sets.specs.declared.Found.the-variants.{At, Clear}
 use Rattle.sets.specs.Faults.{instant, twice}
-use Rattle.builder.specs.Netlist.{netlist, sheetNetlist}
+use Rattle.builder.specs.Netlist.{sheetNetlist}
 use Rattle.compiler.specs.Check.{unless, roomy, judged, judge}
 
 -- a fault is no sheet

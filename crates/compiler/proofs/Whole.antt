@@ -1,40 +1,32 @@
 -- The whole check: what the reader, the judge and the search for an order answer makes the one answer that the definition allows.
 use mathlib.Core.Path.{_≡_, refl, sym, ap, _∙_, subst}
-use mathlib.Core.Bool.{Bool, true, false}
 use mathlib.Core.List.{List, map}
 use Prim.Native.Nat.{ℕ, _+_, _≤_}
 use native.Mathlib.Omega.{arith}
-use lib.Dec.{ltb}
 use lib.ListN.{length, take}
 use lib.Seq.{sets, length-take-le}
-use Rattle.number.specs.declared.CellNo.{CellNo}
 use Rattle.number.specs.declared.Fault.{Fault}
 use Rattle.number.specs.Counts.{stmtNo, haltNo}
-use Rattle.number.specs.Number.{pick}
 use Rattle.sheet.specs.declared.Counts.{Counts}
 use Rattle.sheet.specs.declared.SheetRead.{SheetRead}
 use Rattle.sheet.specs.declared.SheetRead.the-variants.{Read, Refused as NotRead}
-use Rattle.sheet.specs.Stmt.{localCount}
 use Rattle.sheet.specs.Read.{Sheet, SheetOutcome, sheet, faulty, readSheet}
 use Rattle.sheet.specs.Rows.{lay, Holds}
-use Rattle.sheet.specs.Answer.{countsOf, sheetAnswer, SheetLaid, DidSheet}
+use Rattle.sheet.specs.Answer.{sheetAnswer, SheetLaid, DidSheet}
 use Rattle.sheet.proofs.ProperRead.{proper}
 use Rattle.sheet.proofs.Walk.{holds-proper}
-use Rattle.sets.specs.declared.Found.{Found}
-use Rattle.sets.specs.declared.Found.the-variants.{At, Clear}
-use Rattle.sets.specs.Faults.{instant, twice}
 use Rattle.gates.specs.Store.{word}
 use Rattle.gates.proofs.Operands.{AllWithin}
 use Rattle.builder.specs.declared.NetlistBuilt.{NetlistBuilt}
 use Rattle.builder.specs.declared.NetlistBuilt.the-variants.{Cells, Refused as NotBuilt}
-use Rattle.builder.specs.Netlist.{netlist, sheetNetlist}
+use Rattle.builder.specs.Netlist.{sheetNetlist}
 use Rattle.builder.proofs.Format.{stored-whole, sheet-closed}
 use Rattle.order.specs.Paths.{cellsOf, Closed}
 use Rattle.compiler.specs.declared.Compiled.{Compiled}
 use Rattle.compiler.specs.declared.Compiled.the-variants.{Program, Refused}
-use Rattle.compiler.specs.Check.{unless, roomy, judged, judge, Checks, refused, cyclic, accepted}
-use Rattle.compiler.specs.Compile.{ReadAs, SomeRead, builtOf, Judges, JudgesRead, Searchable, Finishes, found, cycle, Lent, Compiles, compiledOf, DidCompile}
-use Rattle.compiler.proofs.Passing.{faulty-sheet, Passed, passed}
+use Rattle.compiler.specs.Check.{judged, judge, refused, cyclic, accepted}
+use Rattle.compiler.specs.Compile.{ReadAs, SomeRead, builtOf, Judges, JudgesRead, Finishes, found, cycle, Compiles, compiledOf, DidCompile}
+use Rattle.compiler.proofs.Passing.{faulty-sheet, passed}
 use Rattle.order.proofs.Closing.{closed, stored-cells}
 
 -- the bytes were read as a sheet, which the rows hold
@@ -57,8 +49,8 @@ module _ {s before after : List ℕ} (room : 256 ≤ length before) where
   sheet-was-read did e = was-read (readSheet s) refl (rw e at did)
 
 -- a fault of the first eleven
-module _ {s rows sets cells order : List ℕ} {f : Fault} where
-  pub did-refuse : judge s ≡ faulty f → DidCompile s (Refused f) rows sets cells order
+module _ {s rows sets cells : List ℕ} {f : Fault} where
+  pub did-refuse : judge s ≡ faulty f → DidCompile s (Refused f) rows sets cells
   unfolding compiledOf
   did-refuse e = record { outcome = faulty f; checks = refused e; answer = refl; columns = λ w z. faulty-sheet z }
 
@@ -72,8 +64,8 @@ unfolding builtOf
 not-built (faulty f) e = cc
 not-built (sheet w) e = let z : _≡_ {A = ℕ} 0 1 = cc in absurd (omega arith)
 
-pub sheet-refused : {s before after rows sets cells order : List ℕ} {r : SheetRead} {f : Fault} → DidSheet (readSheet s) r before after → r ≡ NotRead f
-    → DidCompile s (Refused f) rows sets cells order
+pub sheet-refused : {s before after rows sets cells : List ℕ} {r : SheetRead} {f : Fault} → DidSheet (readSheet s) r before after → r ≡ NotRead f
+    → DidCompile s (Refused f) rows sets cells
 unfolding judge judged
 sheet-refused {s} did e = did-refuse (ap judged (not-read (readSheet s) (sym e ∙ did .answer)))
 
@@ -104,7 +96,7 @@ module _ {s rows : List ℕ} {c : Counts} (was : WasRead s rows c) where
     judges : Judges (was .w) r sets′ cells cells′
     judges = did .judges (was .w) (was .is)
 
-    pub judge-refused : {f : Fault} {rows sets cells order : List ℕ} → r ≡ NotBuilt f → DidCompile s (Refused f) rows sets cells order
+    pub judge-refused : {f : Fault} {rows sets cells : List ℕ} → r ≡ NotBuilt f → DidCompile s (Refused f) rows sets cells
     judge-refused e = did-refuse (judged-sheet ∙ not-built (judged (sheet (was .w))) (sym e ∙ judges .answer))
 
     module _ {n : ℕ} (built-n : r ≡ Cells n) (room : 1024 ≤ length cells) where
@@ -126,7 +118,7 @@ module _ {s rows : List ℕ} {c : Counts} (was : WasRead s rows c) where
       n-few : n ≤ 1024
       n-few = omega (arith, built .count, built .few)
 
-      -- .. and there are n of them, for which the columns have room
+      -- .. and there are n of them, at most 1,024
       module _ (kept : length cells′ ≡ length cells) where
         pub n-long : n ≤ length cells′
         n-long = omega (arith, n-few, room)
@@ -134,15 +126,8 @@ module _ {s rows : List ℕ} {c : Counts} (was : WasRead s rows c) where
         pub prefix-long : n ≡ length (take n cells′)
         prefix-long = sym (length-take-le n cells′ n-long)
 
-        pub searchable : {marks stack order : List ℕ} → 1024 ≤ length marks → 1024 ≤ length stack → 1024 ≤ length order
-            → Searchable (length (take n cells′)) marks stack order
-        searchable m s o =
-            record {
-              few = omega (arith, n-few, prefix-long);
-              marks-long = omega (arith, n-few, prefix-long);
-              stack-long = omega (arith, n-few, prefix-long);
-              order-long = omega (arith, n-few, prefix-long);
-            }
+        pub prefix-few : length (take n cells′) ≤ 1024
+        prefix-few = omega (arith, n-few, prefix-long)
 
       stored-words : take (length (sheetNetlist (was .w))) cells′ ≡ map word (sheetNetlist (was .w))
       stored-words = rw (judges .stored (built .judged-as)) (stored-whole (sheetNetlist (was .w)) cells (omega (arith, built .few)))
@@ -150,7 +135,7 @@ module _ {s rows : List ℕ} {c : Counts} (was : WasRead s rows c) where
       meaning : cellsOf (take (length (sheetNetlist (was .w))) cells′) ≡ sheetNetlist (was .w)
       meaning = ap (λ (k : ℕ). cellsOf (take k cells′)) (sym (built .count)) ∙ cells-are
 
-      finish : {r : Compiled} {order : List ℕ} → Finishes (sheetNetlist (was .w)) c r order → DidCompile s r rows sets′ cells′ order
+      finish : {r : Compiled} → Finishes (sheetNetlist (was .w)) c r → DidCompile s r rows sets′ cells′
       unfolding compiledOf
       finish (found {order} ordered) =
           record {
@@ -158,10 +143,10 @@ module _ {s rows : List ℕ} {c : Counts} (was : WasRead s rows c) where
             checks = accepted order (judged-sheet ∙ built .judged-as) ordered;
             answer = ap (λ (k : Counts). Program k (length (sheetNetlist (was .w)))) (was .is .counts);
             columns = λ v e. let own : was .w ≡ v = cc in
-                subst (λ (u : Sheet). Compiles u rows sets′ cells′ order) own
-                (record { holds = was .is .holds; kept = judges .kept; stored = stored-words; means = meaning; ordered = ordered });
+                subst (λ (u : Sheet). Compiles u rows sets′ cells′) own
+                (record { holds = was .is .holds; kept = judges .kept; stored = stored-words; means = meaning });
           }
-      finish (cycle {order} {x} lowest) =
+      finish (cycle lowest) =
           record {
             outcome = _;
             checks = cyclic (judged-sheet ∙ built .judged-as) lowest;
@@ -169,5 +154,5 @@ module _ {s rows : List ℕ} {c : Counts} (was : WasRead s rows c) where
             columns = λ v e. faulty-sheet e;
           }
 
-      pub did-finish : {r : Compiled} {order : List ℕ} → Finishes (cellsOf (take n cells′)) c r order → DidCompile s r rows sets′ cells′ order
+      pub did-finish : {r : Compiled} → Finishes (cellsOf (take n cells′)) c r → DidCompile s r rows sets′ cells′
       did-finish f = finish (rw cells-are at f)

@@ -49,26 +49,16 @@ pub record Judges (w : Sheet) (r : NetlistBuilt) (sets′ cells cells′ : List 
 pub record JudgesRead (rows : List ℕ) (c : Counts) (r : NetlistBuilt) (sets′ cells cells′ : List ℕ) : Type 0 where
   pub judges : (w : Sheet) → ReadAs rows c w → Judges w r sets′ cells cells′
 
--- the columns for the order have an entry for each of n cells, at most 1,024
-pub record Searchable (n : ℕ) (marks stack order : List ℕ) : Type 0 where
-  pub few : n ≤ 1024
-  pub marks-long : n ≤ length marks
-  pub stack-long : n ≤ length stack
-  pub order-long : n ≤ length order
-
 -- CYCLE, or an order
-pub data Finishes (cells : List Cell) (c : Counts) : Compiled → List ℕ → Type 0 where
-  found : {order : List ℕ} → Ordered cells order → Finishes cells c (Program c (length cells)) order
-  cycle : {order : List ℕ} {x : CellNo} → Lowest cells x → Finishes cells c (Refused (fault Cycle (ofCell x))) order
+pub data Finishes (cells : List Cell) (c : Counts) : Compiled → Type 0 where
+  found : {order : List ℕ} → Ordered cells order → Finishes cells c (Program c (length cells))
+  cycle : {x : CellNo} → Lowest cells x → Finishes cells c (Refused (fault Cycle (ofCell x)))
 
 -- the columns lent are long enough for every sheet that is accepted
-pub record Lent (rows sets cells marks stack order : List ℕ) : Type 0 where
+pub record Lent (rows sets cells : List ℕ) : Type 0 where
   pub rows-long : 256 ≤ length rows
   pub sets-long : length rows ≤ length sets
   pub cells-long : 1024 ≤ length cells
-  pub marks-long : 1024 ≤ length marks
-  pub stack-long : 1024 ≤ length stack
-  pub order-long : 1024 ≤ length order
 
 -- "0 is acceptance, place 0, with statement and cell counts": the answer in the code's type
 unfoldable pub compiledOf : SheetOutcome → Compiled
@@ -76,16 +66,15 @@ unfolding netlist
 compiledOf (sheet w) = Program (countsOf w) (length (sheetNetlist w))
 compiledOf (faulty f) = Refused f
 
--- what the columns hold of the sheet w: its rows, its K and R, its cells and an order of them
-pub record Compiles (w : Sheet) (rows sets cells order : List ℕ) : Type 0 where
+-- what the columns hold of the sheet w: its rows, its K and R, and its cells
+pub record Compiles (w : Sheet) (rows sets cells : List ℕ) : Type 0 where
   pub holds : Holds rows (stmtNo 0) (haltNo 0) (w .root)
   pub kept : Kept sets (stmtNo 0) (w .root)
   pub stored : take (length (sheetNetlist w)) cells ≡ map word (sheetNetlist w)
   pub means : cellsOf (take (length (sheetNetlist w)) cells) ≡ sheetNetlist w
-  pub ordered : Ordered (sheetNetlist w) order
 
-pub record DidCompile (s : List ℕ) (r : Compiled) (rows sets cells order : List ℕ) : Type 0 where
+pub record DidCompile (s : List ℕ) (r : Compiled) (rows sets cells : List ℕ) : Type 0 where
   pub outcome : SheetOutcome
   pub checks : Checks s outcome
   pub answer : r ≡ compiledOf outcome
-  pub columns : (w : Sheet) → outcome ≡ sheet w → Compiles w rows sets cells order
+  pub columns : (w : Sheet) → outcome ≡ sheet w → Compiles w rows sets cells

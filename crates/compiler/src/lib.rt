@@ -13,7 +13,7 @@ ghost use lib.ListN.{length};
 ghost use Rattle.number.specs.Counts.{ofStmt};
 ghost use Rattle.number.specs.Refusals.{fault};
 ghost use Rattle.order.specs.Paths.{cellsOf, Closed};
-ghost use Rattle.compiler.specs.Compile.{SomeRead, JudgesRead, Searchable, Finishes, Lent, DidCompile};
+ghost use Rattle.compiler.specs.Compile.{SomeRead, JudgesRead, Finishes, Lent, DidCompile};
 
 // How many of each a sheet has, and its cells; or the first fault.
 pub enum Compiled {
@@ -47,17 +47,12 @@ fn judge(rows: &[u64], sets: &mut [u64], cells: &mut [u64], c: Counts) -> Netlis
 }
 
 // CYCLE, or the program with these counts and cells.
-fn ordered(
-    cells: &[u64],
-    marks: &mut [u8],
-    stack: &mut [u16],
-    order: &mut [u16],
-    c: Counts,
-) -> Compiled
-    requires { ⌜ Closed (cellsOf (now cells)) × Searchable (length (now cells)) (now marks) (now stack) (now order) ⌝ }
-    ensures { λ r. ⌜ Finishes (cellsOf (now (cells .entry))) c r (now (order .exit)) ⌝ }
+fn ordered(cells: &[u64], c: Counts) -> Compiled
+    requires { ⌜ Closed (cellsOf (now cells)) × (length (now cells) ≤ 1024) ⌝ }
+    ensures { λ r. ⌜ Finishes (cellsOf (now (cells .entry))) c r ⌝ }
 {
-    match order::order_cells(cells, marks, stack, order) {
+    let mut order = [0u16; 1024];
+    match order::order_cells(cells, &mut order) {
         Ordering::Found => Compiled::Program(c, cells.len() as u16),
         Ordering::Cycle(x) => Compiled::Refused(Fault {
             refusal: Refusal::Cycle,
@@ -66,24 +61,16 @@ fn ordered(
     }
 }
 
-// Checks a sheet and compiles it into the lent columns: rows, sets, cells and their order. `marks` and `stack` are for the search alone.
-pub fn compile(
-    s: &[u8],
-    rows: &mut [u64],
-    sets: &mut [u64],
-    cells: &mut [u64],
-    marks: &mut [u8],
-    stack: &mut [u16],
-    order: &mut [u16],
-) -> Compiled
-    requires { ⌜ Lent (now rows) (now sets) (now cells) (now marks) (now stack) (now order) ⌝ }
-    ensures { λ r. ⌜ DidCompile (now (s .entry)) r (now (rows .exit)) (now (sets .exit)) (now (cells .exit)) (now (order .exit)) ⌝ }
+// Checks a sheet and compiles it into the lent columns: rows, sets and cells.
+pub fn compile(s: &[u8], rows: &mut [u64], sets: &mut [u64], cells: &mut [u64]) -> Compiled
+    requires { ⌜ Lent (now rows) (now sets) (now cells) ⌝ }
+    ensures { λ r. ⌜ DidCompile (now (s .entry)) r (now (rows .exit)) (now (sets .exit)) (now (cells .exit)) ⌝ }
 {
     match sheet::read_sheet(s, rows) {
         SheetRead::Refused(f) => Compiled::Refused(f),
         SheetRead::Read(c) => match judge(rows, sets, cells, c) {
             NetlistBuilt::Refused(f) => Compiled::Refused(f),
-            NetlistBuilt::Cells(n) => ordered(&cells[..n as usize], marks, stack, order, c),
+            NetlistBuilt::Cells(n) => ordered(&cells[..n as usize], c),
         },
     }
 }

@@ -19,7 +19,6 @@ use Rattle.gates.specs.Values.{tally, registers}
 use Rattle.gates.proofs.Operands.{Within}
 use Rattle.order.proofs.Closing.{within-wider}
 use Rattle.files.specs.File.{Netlist, kindOf, operandBytes, cellBytes, cellsBytes, fileBytes, kindFits, isNet, operandsFit, cellsFit, nextCell, WellFormed}
-use Rattle.files.specs.Judge.{manySignals}
 use Rattle.files.specs.Read.{netlist, readFile}
 use Rattle.files.proofs.Judging.{and-left, and-right, right-count, right-kind, room-tally, tally-sum, kind-low, fit-within}
 use Rattle.files.proofs.Standing.{PairStands, Operands, CellStands, CellsStand}
@@ -147,7 +146,7 @@ module _ (s : List ℕ) (I m : ℕ) (inputs : I < 64) (few : m ≤ 1024) where
       record { end = then .end; stand = (first .past, first .stands, then .stand); behind = then .behind }
 
 file-in : (w : Netlist) → WellFormed w → FileStands (fileBytes w) w
-unfolding fileBytes manySignals
+unfolding fileBytes
 file-in w h =
     let s : List ℕ = fileBytes w in
     let I : ℕ = w .inputs in

@@ -146,7 +146,6 @@ stands-file {s} {w} h =
 
 -- what was read is well formed
 pub read-well-formed : (s : List ℕ) {w : Netlist} → readFile s ≡ netlist w → WellFormed w
-unfolding manySignals
 read-well-formed s {w} e =
     let h = file-stands s e in
     let count : CountRight (w .inputs) (w .outputs) (length (w .cells)) = count-right (w .inputs) (w .outputs) (length (w .cells)) (h .enough) in

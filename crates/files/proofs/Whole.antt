@@ -24,7 +24,6 @@ use Rattle.files.proofs.Standing.{cells-stand}
 
 -- over 64 signals are refused, so there are at most 64
 pub few-signals : (I O : ℕ) → manySignals I O ≡ false → 1 + I + O ≤ 64
-unfolding manySignals
 few-signals I O e = ltb-false 64 (1 + I + O) e
 
 pub file-stop : {o : FileOutcome} {f : Fault} {column column′ : List ℕ} → o ≡ faulty f → DidFile o (Refused f) column column′

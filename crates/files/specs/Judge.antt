@@ -10,7 +10,7 @@ use Rattle.files.specs.declared.Judgement.the-variants.{Right, Wrong}
 use Rattle.files.specs.File.{kindFits}
 
 -- "1+I+O over 64 .. : COUNT"
-unfoldable pub manySignals : ℕ → ℕ → Bool
+abbrev pub manySignals : ℕ → ℕ → Bool
 manySignals I O = ltb 64 (1 + I + O)
 
 -- "over 1,024 cells: COUNT, .. then CELL": "count under 2+I+O"

@@ -14,7 +14,7 @@ ghost use Rattle.number.specs.Counts.{cellNo};
 ghost use Rattle.number.specs.Number.{numberAt};
 ghost use Rattle.number.specs.Refusals.{fault};
 ghost use Rattle.files.specs.File.{kindFits};
-ghost use Rattle.files.specs.Judge.{manySignals, judgeCount, judgeKind};
+ghost use Rattle.files.specs.Judge.{judgeCount, judgeKind};
 ghost use Rattle.files.specs.Read.{netAt, pairAt, inputOf, gate, gateOf, registerOf, operandsAt, readCell, readCells, bodyAt, countAt, readFile};
 ghost use Rattle.files.specs.Answer.{DidCells, DidFile};
 
@@ -62,19 +62,6 @@ pub fn refused(refusal: Refusal, place: usize) -> FileRead
     ensures { λ r. ⌜ r ≡ FileRead.Refused (fault refusal place) ⌝ }
 {
     FileRead::Refused(Fault { refusal, place })
-}
-
-// Whether there are over 64 signals with tick. I and O may be any numbers of their type.
-pub fn many_signals(i: u32, o: u32) -> bool
-    ensures { λ r. ⌜ r ≡ manySignals i o ⌝ }
-{
-    if 63 < i {
-        return true;
-    }
-    if 63 - i < o {
-        return true;
-    }
-    false
 }
 
 // The count of cells: COUNT, CELL.
@@ -312,7 +299,7 @@ pub fn read_file(s: &[u8], cells: &mut [u64]) -> FileRead
     let NumberRead::Value(o, third) = b else {
         return FileRead::Refused(number::fault_of(b));
     };
-    if many_signals(i, o) {
+    if limits::header_full(i, o) {
         return refused(Refusal::Count, place);
     }
     read_counted(s, i, o, third.at, cells)

@@ -71,7 +71,9 @@ pub fn cell_in(w: u64) -> Cell
     let first = (w / 8 % 65536) as u16;
     let x = CellNo::new(first);
     let y = CellNo::new((w / 524288 % 65536) as u16);
+    // Low has an arm of its own beside the last: with seven of the eight values named, the jump needs no test.
     match w % 8 {
+        0 => Cell::Low,
         1 => Cell::High,
         2 => Cell::Input(SignalNo::new(first)),
         3 => Cell::Or(x, y),

@@ -10,10 +10,6 @@ use sheet::Counts;
 use sheet::Head;
 use sheet::Unary;
 ghost use mathlib.Core.Path.{_≡_};
-ghost use mathlib.Core.Bool.{_||_};
-ghost use Prim.Native.Nat.{ℕ};
-ghost use lib.Dec.{eqb};
-ghost use Rattle.bits.specs.Bits.{has};
 ghost use Rattle.number.specs.Refusals.{fault};
 ghost use Rattle.sheet.specs.Read.{only};
 ghost use Rattle.rules.specs.Words.{Runnable, root};
@@ -120,7 +116,7 @@ fn refused(refusal: Refusal, state: u64) -> Interpreted
     Interpreted::Refused(Fault { refusal, place: 0 }, state)
 }
 
-// One reaction of a sheet that was compiled: EVENT, then STATE, then the rules.
+// One reaction of a sheet that was compiled: EVENT, then STATE, then the rules, in a run over this one event.
 pub fn react(
     rows: &[u64],
     sets: &[u64],
@@ -138,9 +134,11 @@ pub fn react(
     if !rules::fits(rows, sets, state) {
         return refused(Refusal::State, state);
     }
-    let asks = tested(rows, StmtNo::new(0));
-    let r = agreed(rows, asks, state, event);
-    Interpreted::Reacted(c, cells, r.emits, rules::next_state(r))
+    let events = [event];
+    let mut emissions = [0u64; 1];
+    let mut states = [0u64; 1];
+    let next = moments(rows, state, &events, &mut emissions, &mut states);
+    Interpreted::Reacted(c, cells, emissions[0], next)
 }
 
 // A reaction to each event, each from the state after the one before. The emissions and the states go to the first places of the lent slices; the last state
@@ -177,14 +175,11 @@ pub fn interpret(
     rows: &mut [u64],
     sets: &mut [u64],
     cells: &mut [u64],
-    marks: &mut [u8],
-    stack: &mut [u16],
-    order: &mut [u16],
 ) -> Interpreted
-    requires { ⌜ Lent (now rows) (now sets) (now cells) (now marks) (now stack) (now order) ⌝ }
+    requires { ⌜ Lent (now rows) (now sets) (now cells) ⌝ }
     ensures { λ r. ⌜ Interprets (now (s .entry)) state event r ⌝ }
 {
-    match compiler::compile(s, rows, sets, cells, marks, stack, order) {
+    match compiler::compile(s, rows, sets, cells) {
         Compiled::Refused(f) => Interpreted::Refused(f, state),
         Compiled::Program(c, n) => react(rows, sets, c, n, state, event),
     }

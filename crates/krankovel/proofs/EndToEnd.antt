@@ -1,5 +1,5 @@
 -- From a sheet's bytes to its file's bytes, over the entries' own answers.
-use mathlib.Core.Path.{_≡_, refl, sym, ap, _∙_, subst}
+use mathlib.Core.Path.{_≡_, refl, sym, ap, _∙_}
 use mathlib.Core.Bool.{Bool, true, false, and-eq-true-iff}
 use mathlib.Core.List.{List}
 use Prim.Native.Nat.{ℕ, _≤_}
@@ -13,36 +13,35 @@ use Rattle.number.specs.declared.Refusal.{Refusal}
 use Rattle.number.specs.declared.Refusal.the-variants.{Short, Number, Kind, Count, Scope, Emit, Exit, Extra, Instant, Twice, Room, Cycle, Event, State, Buffer, Cell}
 use Rattle.number.specs.Number.{pick}
 use Rattle.number.specs.Refusals.{refusalNo}
-use Rattle.bits.specs.Bits.{has}
 use Rattle.bits.proofs.Laws.{empty}
 use Rattle.sheet.specs.Read.{Sheet, SheetOutcome, sheet, faulty}
-use Rattle.rules.specs.States.{fits}
 use Rattle.gates.specs.Values.{registers}
-use Rattle.run.specs.Many.{Steps, lastState, each}
+use Rattle.run.specs.Many.{lastState, each}
 use Rattle.run.specs.Words.{eventOk, stateOk}
 use Rattle.run.proofs.Words.{past-none}
 use Rattle.run.proofs.Going.{shown-each, states-each}
 use Rattle.run.proofs.Numbering.{laid-more}
-use Rattle.files.specs.File.{Netlist, sheetFile, fileBytes}
-use Rattle.files.specs.Read.{FileOutcome, netlist, readFile}
+use Rattle.files.specs.File.{sheetFile, fileBytes}
+use Rattle.files.specs.Read.{netlist, readFile}
 use Rattle.files.proofs.OfSheets.{built-accepted}
-use Rattle.netlists.specs.Check.{Checks as NetChecks, ChecksFile, accepted as in-order}
+use Rattle.netlists.specs.Check.{ChecksFile, accepted as in-order}
 use Rattle.netlists.proofs.Checking as checking
 use Rattle.compiler.specs.Check.{Checks, Accepted, accepted}
 use Rattle.compiler.proofs.Unique.{one-check}
 use Rattle.agreement.proofs.WordRuns.{fresh-fits}
 use Rattle.interpreter.proofs.Interpreting.{accepted-proper}
-use Rattle.krankovel.specs.declared.Answer.{Answer}
-use Rattle.krankovel.specs.declared.Listing.{Listing}
-use Rattle.krankovel.specs.declared.many.Course.{Course}
-use Rattle.krankovel.specs.Answers.{Verdict, passes, stops, verdict, answerOf, refusal, acceptance}
-use Rattle.krankovel.specs.Sheets.{sheetVerdict, sheetAccepted, Checked, sheetFits, sheetEvent}
-use Rattle.krankovel.specs.Netlists.{netVerdict, netAccepted, NetChecked, netEvent, netState}
-use Rattle.krankovel.specs.Files.{sheetNet, fileOf, writeVerdict, bufferAfter, Filed, Written}
-use Rattle.krankovel.specs.Cells.{wordsOf, listingOf, Handed, Listed, NetListed}
-use Rattle.krankovel.specs.Many.{stateAfter, hasRoom, RanMany, sheetStep, SheetRuns, ReactedMany, netStep, NetRuns, NetReactedMany}
-use Rattle.krankovel.specs.EndToEnd.{SameClocks, SameRun, withoutStatements, EndToEnd}
-use Rattle.krankovel.proofs.FileEntries.{accepted-few}
+use Rattle.verdicts.specs.declared.Answer.{Answer}
+use Rattle.verdicts.specs.declared.Listing.{Listing}
+use Rattle.verdicts.specs.declared.Course.{Course}
+use Rattle.verdicts.specs.Answers.{Verdict, passes, stops, verdict, answerOf, refusal, acceptance, bufferAfter, hasRoom}
+use Rattle.sheet_entries.specs.Sheets.{sheetVerdict, sheetAccepted, Checked, sheetFits, sheetEvent}
+use Rattle.netlist_entries.specs.Netlists.{netVerdict, netAccepted, NetChecked, netEvent, netState}
+use Rattle.netlist_entries.specs.Files.{fileOf, writeVerdict, Filed}
+use Rattle.netlist_entries.specs.Cells.{listingOf, NetListed}
+use Rattle.compile_entries.specs.Compile.{sheetNet, Written, Listed}
+use Rattle.compile_entries.proofs.CompileEntries.{accepted-few}
+use Rattle.many_entries.specs.Many.{stateAfter, RanMany, sheetStep, ReactedMany, netStep, NetReactedMany}
+use Rattle.krankovel.specs.EndToEnd.{SameRun, withoutStatements, EndToEnd}
 use Rattle.krankovel.proofs.Together.{same-run, same-states}
 
 -- no refusal has number 0

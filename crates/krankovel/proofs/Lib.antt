@@ -1,11 +1,2 @@
-pub mod SheetEntries
-pub mod OneSheetAnswer
-pub mod NetEntries
-pub mod FileEntries
-pub mod CellEntries
-pub mod OneNetAnswer
-pub mod CellsBack
-pub mod ManyEntries
-pub mod OneManyAnswer
 pub mod Together
 pub mod EndToEnd

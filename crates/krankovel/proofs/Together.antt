@@ -1,6 +1,6 @@
 -- One clock of an accepted sheet: the interpreter's moment and the netlist's clock give the same outputs and the same next state. And so at each clock of a run.
 use mathlib.Core.Path.{_≡_, refl, sym, ap, ap₂, _∙_, fun-ext, subst}
-use mathlib.Core.Bool.{Bool, true, false, _&&_, _||_, and-eq-true-iff}
+use mathlib.Core.Bool.{true, false, _||_, and-eq-true-iff}
 use mathlib.Core.List.{List, _∷_}
 use Prim.Native.Nat.{ℕ, _+_, _<_}
 use native.Mathlib.Omega.{arith}
@@ -26,10 +26,10 @@ use Rattle.agreement.proofs.InWords.{left-on, right-on, same-where}
 use Rattle.interpreter.specs.Interpret.{Moment}
 use Rattle.interpreter.proofs.Ready.{event-of}
 use Rattle.interpreter.proofs.Alone.{fits-again}
-use Rattle.run.specs.Many.{Steps, ended, goes, lastState, each}
+use Rattle.run.specs.Many.{Steps, ended, goes, each}
 use Rattle.files.specs.File.{sheetFile}
 use Rattle.files.specs.Read.{netlist}
-use Rattle.krankovel.specs.Many.{sheetStep, netStep}
+use Rattle.many_entries.specs.Many.{sheetStep, netStep}
 use Rattle.krankovel.specs.EndToEnd.{SameClock, SameClocks, none, more}
 
 module _ {bytes : List ℕ} {w : Sheet} (accepted : Accepted bytes w) (state event : ℕ) (own : eventOk (w .inputs) event ≡ true)

@@ -10,14 +10,15 @@ use Rattle.sheet.specs.Read.{Sheet}
 use Rattle.run.specs.Words.{isOutput}
 use Rattle.files.specs.Read.{readFile}
 use Rattle.compiler.specs.Check.{Accepted}
-use Rattle.krankovel.specs.declared.Answer.{Answer}
-use Rattle.krankovel.specs.declared.Listing.{Listing}
-use Rattle.krankovel.specs.declared.many.Course.{Course}
-use Rattle.krankovel.specs.Answers.{acceptance}
-use Rattle.krankovel.specs.Sheets.{Checked}
-use Rattle.krankovel.specs.Netlists.{NetChecked}
-use Rattle.krankovel.specs.Cells.{Listed, NetListed}
-use Rattle.krankovel.specs.Many.{hasRoom, ReactedMany, NetReactedMany}
+use Rattle.verdicts.specs.declared.Answer.{Answer}
+use Rattle.verdicts.specs.declared.Listing.{Listing}
+use Rattle.verdicts.specs.declared.Course.{Course}
+use Rattle.verdicts.specs.Answers.{acceptance, hasRoom}
+use Rattle.sheet_entries.specs.Sheets.{Checked}
+use Rattle.netlist_entries.specs.Netlists.{NetChecked}
+use Rattle.netlist_entries.specs.Cells.{NetListed}
+use Rattle.compile_entries.specs.Compile.{Listed}
+use Rattle.many_entries.specs.Many.{ReactedMany, NetReactedMany}
 
 -- one clock of the interpreter beside one of the netlist: the same outputs, "taken out of the emissions", and the same next state
 pub record SameClock (I O emissions next outputs next′ : ℕ) : Type 0 where

@@ -13,11 +13,10 @@ use Rattle.number.specs.Counts.{cellNo, ofCell}
 use Rattle.number.specs.Refusals.{fault}
 use Rattle.gates.specs.declared.Cell.{Cell}
 use Rattle.gates.specs.Store.{word}
-use Rattle.gates.specs.Values.{registers}
 use Rattle.gates.proofs.Operands.{AllWithin}
 use Rattle.order.specs.declared.Ordering.{Ordering}
 use Rattle.order.specs.declared.Ordering.the-variants.{Found, Cycle}
-use Rattle.order.specs.Paths.{cellsOf, Closed, Lowest, Ordered, Answers}
+use Rattle.order.specs.Paths.{cellsOf, Closed, Lowest, Orderable, Ordered, Answers}
 use Rattle.order.proofs.Closing as closing
 use Rattle.order.proofs.Unique.{ordered-acyclic, lowest-unique}
 use Rattle.run.specs.React.{Prepared}
@@ -29,7 +28,7 @@ use Rattle.files.specs.Read.{FileOutcome, netlist, faulty, readFile}
 use Rattle.netlists.specs.Words.{judgeCells}
 use Rattle.netlists.specs.Check.{Checks, refused, cyclic, accepted, ChecksFile, ChecksCells}
 use Rattle.files.specs.Answer.{headerOf, fileAnswer, FileLaid, DidFile}
-use Rattle.netlists.specs.Checked.{afterOrder, IsOrdered, DidCheck, DidCheckFile, Lent, Searchable}
+use Rattle.netlists.specs.Checked.{afterOrder, IsOrdered, DidCheck, DidCheckFile}
 use Rattle.files.proofs.Judging.{all-within}
 use Rattle.files.proofs.Sound.{read-well-formed}
 use Rattle.netlists.proofs.Words.{CellsRight, cells-right}
@@ -50,13 +49,8 @@ module _ {w : Netlist} (h : WellFormed w) where
       ∙ closing.stored-cells (1 + w .inputs) within column (omega (arith, h .signals)) (omega (arith, h .few)) (omega (arith, h .few))
 
   -- all that the search for an order asks for
-  pub searchable : {marks stack order : List ℕ} → Lent marks stack order → Searchable (w .cells) marks stack order
-  searchable l =
-      record {
-        closed = closed;
-        lent = record { few = omega (arith, h .few); wide = omega (arith, h .few, l .wide); deep = omega (arith, h .few, l .deep) };
-        long = omega (arith, h .few, l .long);
-      }
+  orderable : {order : List ℕ} → 1024 ≤ length order → Orderable (w .cells) order
+  orderable places = record { closed = closed; few = h .few; long = omega (arith, h .few) }
 
   -- and all that a clock asks for
   pub prepared : {I O : ℕ} {order : List ℕ} {values : List Bool} → I ≡ w .inputs → O ≡ w .outputs → Ordered (w .cells) order
@@ -125,8 +119,8 @@ module _ (s : List ℕ) {r : FileRead} {column column′ : List ℕ} (d : DidFil
   same : cellsOf (take (h .cells) column′) ≡ cells
   same = laid-cells sound column count laid long
 
-  pub file-searchable : {marks stack order : List ℕ} → Lent marks stack order → Searchable (cellsOf (take (h .cells) column′)) marks stack order
-  file-searchable l = rw same (searchable sound l)
+  pub file-orderable : {order : List ℕ} → 1024 ≤ length order → Orderable (cellsOf (take (h .cells) column′)) order
+  file-orderable places = rw same (orderable sound places)
 
   pub file-checked : {order : List ℕ} (a : Ordering) → Answers (cellsOf (take (h .cells) column′)) order a
       → DidCheckFile (readFile s) (afterOrder h a) column column′ order
@@ -146,8 +140,8 @@ module _ (I O : ℕ) (words : List ℕ) {r : FileRead} (q : r ≡ fileAnswer (ju
   same-words : judged .net .cells ≡ cellsOf words
   same-words = ap (λ (w : Netlist). w .cells) (right .is)
 
-  pub cells-searchable : {marks stack order : List ℕ} → Lent marks stack order → Searchable (cellsOf words) marks stack order
-  cells-searchable l = rw same-words at (searchable (right .sound) l)
+  pub cells-orderable : {order : List ℕ} → 1024 ≤ length order → Orderable (cellsOf words) order
+  cells-orderable places = rw (← same-words) (orderable (right .sound) places)
 
   pub cells-checked : {order : List ℕ} (a : Ordering) → Answers (cellsOf words) order a → DidCheck (judgeCells I O words) (afterOrder h a) order
   cells-checked a o = check-order judged a (rw same-words o)

@@ -6,7 +6,6 @@ use mathlib.Core.List.{List}
 use native.Mathlib.Omega.{arith}
 use lib.ListN.{length, take}
 use Rattle.number.specs.Number.{Bytes}
-use Rattle.gates.specs.Values.{registers}
 use Rattle.order.specs.Paths.{cellsOf, Ordered}
 use Rattle.run.specs.React.{Prepared}
 use Rattle.files.specs.declared.Header.{Header}
@@ -68,13 +67,6 @@ module _ (s : List ℕ) {h : Header} {column column′ order : List ℕ} (d : Di
       rw file-cells
       (prepared sound (ap (λ (x : Header). x .inputs) header) (ap (λ (x : Header). x .outputs) header) (file .ordered)
       (omega (arith, sound .few)) (each ∙ count))
-
-  -- it is well formed as words too, so that it can be written
-  pub file-sound : WellFormed (netlistOf (h .inputs) (h .outputs) (take (h .cells) column′))
-  file-sound =
-      let header : h ≡ headerOf net = file .found-as .header in
-      subst WellFormed
-      (same-net (sym (ap (λ (x : Header). x .inputs) header)) (sym (ap (λ (x : Header). x .outputs) header)) (sym file-cells)) sound
 
 -- of cells as words that were checked
 module _ (I O : ℕ) (words : List ℕ) {h : Header} {order : List ℕ} (d : DidCheck (judgeCells I O words) (Read h) order) (places : 1024 ≤ length order) where

@@ -175,7 +175,6 @@ module _ (I O : ℕ) (words : List ℕ) where
 
   all-right : manySignals I O ≡ false → judgeCount I O (length words) ≡ Right → judgeWords I (length words) (cellNo 0) 0 words ≡ Right
       → CellsRight I O words (netlistOf I O words)
-  unfolding manySignals
   all-right few count all =
       let m : length (cellsOf words) ≡ length words = length-map words cellIn in
       let right : CountRight I O (length words) = count-right I O (length words) count in

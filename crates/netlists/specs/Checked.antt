@@ -1,15 +1,13 @@
 -- What the code of a check answers, by the definitions.
 use mathlib.Core.Path.{_≡_}
 use mathlib.Core.List.{List}
-use Prim.Native.Nat.{ℕ, _≤_}
-use lib.ListN.{length}
+use Prim.Native.Nat.{ℕ}
 use Rattle.number.specs.declared.Refusal.the-variants.{Cycle as CycleFault}
 use Rattle.number.specs.Counts.{ofCell}
 use Rattle.number.specs.Refusals.{fault}
-use Rattle.gates.specs.declared.Cell.{Cell}
 use Rattle.order.specs.declared.Ordering.{Ordering}
 use Rattle.order.specs.declared.Ordering.the-variants.{Found, Cycle}
-use Rattle.order.specs.Paths.{Closed, Lent as LentToOrder, Ordered}
+use Rattle.order.specs.Paths.{Ordered}
 use Rattle.files.specs.declared.Header.{Header}
 use Rattle.files.specs.declared.FileRead.{FileRead}
 use Rattle.files.specs.declared.FileRead.the-variants.{Read, Refused}
@@ -38,15 +36,3 @@ pub record DidCheck (found : FileOutcome) (r : FileRead) (order : List ℕ) : Ty
 pub record DidCheckFile (found : FileOutcome) (r : FileRead) (column column′ order : List ℕ) : Type 0 where
   pub check : DidCheck found r order
   pub laid : FileLaid found column column′
-
--- the columns lent to a check have an entry for each of the 1,024 cells that there may be
-pub record Lent (marks stack order : List ℕ) : Type 0 where
-  pub wide : 1024 ≤ length marks
-  pub deep : 1024 ≤ length stack
-  pub long : 1024 ≤ length order
-
--- cells that can be ordered in the columns lent
-pub record Searchable (cells : List Cell) (marks stack order : List ℕ) : Type 0 where
-  pub closed : Closed cells
-  pub lent : LentToOrder cells marks stack
-  pub long : length cells ≤ length order

@@ -11,12 +11,12 @@ ghost use mathlib.Core.Bool.{_&&_};
 ghost use Prim.Native.Nat.{_<_, _≤_};
 ghost use lib.ListN.{length, getD, take};
 ghost use Rattle.number.specs.Counts.{ofCell, cellNo};
-ghost use Rattle.order.specs.Paths.{cellsOf, Answers};
+ghost use Rattle.order.specs.Paths.{cellsOf, Orderable, Answers};
 ghost use Rattle.files.specs.File.{isNet, operandsFit};
 ghost use Rattle.files.specs.Read.{readFile};
 ghost use Rattle.files.specs.Answer.{fileAnswer};
 ghost use Rattle.netlists.specs.Words.{judgeWord, judgeWords, judgeCells};
-ghost use Rattle.netlists.specs.Checked.{afterOrder, DidCheck, DidCheckFile, Lent, Searchable};
+ghost use Rattle.netlists.specs.Checked.{afterOrder, DidCheck, DidCheckFile};
 
 // Whether the operands of cell x, one of m, are right.
 fn operands_fit(m: u32, x: CellNo, c: Cell) -> bool
@@ -87,7 +87,7 @@ fn judge_words(words: &[u64], h: Header) -> Judgement
 pub fn judge_cells(i: u32, o: u32, words: &[u64]) -> FileRead
     ensures { λ r. ⌜ r ≡ fileAnswer (judgeCells i o (now (words .entry))) ⌝ }
 {
-    if files::many_signals(i, o) {
+    if limits::header_full(i, o) {
         return files::refused(Refusal::Count, 0);
     }
     match files::judge_count(i, o, words.len()) {
@@ -117,54 +117,34 @@ fn after_order(h: Header, r: Ordering) -> FileRead
 }
 
 // An order of the first m cells of the column.
-fn order_first(
-    cells: &[u64],
-    m: usize,
-    marks: &mut [u8],
-    stack: &mut [u16],
-    order: &mut [u16],
-) -> Ordering
-    requires { ⌜ (m ≤ length (now cells)) × Searchable (cellsOf (take m (now cells))) (now marks) (now stack) (now order) ⌝ }
+fn order_first(cells: &[u64], m: usize, order: &mut [u16]) -> Ordering
+    requires { ⌜ (m ≤ length (now cells)) × Orderable (cellsOf (take m (now cells))) (now order) ⌝ }
     ensures { λ r. ⌜ Answers (cellsOf (take m (now (cells .entry)))) (now (order .exit)) r ⌝ }
 {
-    order::order_cells(&cells[..m], marks, stack, order)
+    order::order_cells(&cells[..m], order)
 }
 
-// The whole check of a file. On acceptance its cells stand in the first places of `cells`, and an order of them in those of `order`; the other two columns
-// are for the search.
-pub fn check_file(
-    s: &[u8],
-    cells: &mut [u64],
-    marks: &mut [u8],
-    stack: &mut [u16],
-    order: &mut [u16],
-) -> FileRead
-    requires { ⌜ (1024 ≤ length (now cells)) × Lent (now marks) (now stack) (now order) ⌝ }
+// The whole check of a file. On acceptance its cells stand in the first places of `cells`, and an order of them in those of `order`.
+pub fn check_file(s: &[u8], cells: &mut [u64], order: &mut [u16]) -> FileRead
+    requires { ⌜ (1024 ≤ length (now cells)) × (1024 ≤ length (now order)) ⌝ }
     ensures { λ r. ⌜ DidCheckFile (readFile (now (s .entry))) r (now (cells .entry)) (now (cells .exit)) (now (order .exit)) ⌝ }
 {
     match files::read_file(s, cells) {
         FileRead::Refused(f) => FileRead::Refused(f),
         FileRead::Read(h) => {
             let m = h.cells as usize;
-            after_order(h, order_first(cells, m, marks, stack, order))
+            after_order(h, order_first(cells, m, order))
         }
     }
 }
 
-// The whole check of cells as words.
-pub fn check_cells(
-    i: u32,
-    o: u32,
-    words: &[u64],
-    marks: &mut [u8],
-    stack: &mut [u16],
-    order: &mut [u16],
-) -> FileRead
-    requires { ⌜ Lent (now marks) (now stack) (now order) ⌝ }
+// The whole check of cells as words. On acceptance an order of them stands in the first places of `order`.
+pub fn check_cells(i: u32, o: u32, words: &[u64], order: &mut [u16]) -> FileRead
+    requires { ⌜ 1024 ≤ length (now order) ⌝ }
     ensures { λ r. ⌜ DidCheck (judgeCells i o (now (words .entry))) r (now (order .exit)) ⌝ }
 {
     match judge_cells(i, o, words) {
         FileRead::Refused(f) => FileRead::Refused(f),
-        FileRead::Read(h) => after_order(h, order::order_cells(words, marks, stack, order)),
+        FileRead::Read(h) => after_order(h, order::order_cells(words, order)),
     }
 }

@@ -14,7 +14,7 @@ use Rattle.gates.specs.Store.{word}
 use Rattle.gates.specs.Values.{cellAt}
 use Rattle.gates.proofs.Operands.{Within, AllWithin}
 use Rattle.gates.proofs.Words.{read-back}
-use Rattle.order.specs.Paths.{cellsOf, pinsOf, Among, Needs, Closed}
+use Rattle.order.specs.Paths.{cellsOf, pinsOf, Among, Closed}
 
 pub within-wider : (s m s′ m′ : ℕ) (c : Cell) → s ≤ s′ → m ≤ m′ → Within s m c → Within s′ m′ c
 within-wider s m s′ m′ Low hs hm h = tt

@@ -4,13 +4,13 @@ use mathlib.Core.Path.{_≡_, refl, ap, _∙_, subst⁻¹}
 use mathlib.Core.List.{List, [], _∷_}
 use native.Mathlib.Omega.{arith}
 use native.Mathlib.Decide.{ℕ-discrete, decLt}
-use lib.ListN.{length, getD, set, List·getD-eq-default}
+use lib.ListN.{length, getD, set, replicate, List·getD-eq-default}
 use lib.Seq.{getD-set-same, getD-set-other}
 use Rattle.number.specs.Counts.{cellNo, ofCell}
 use Rattle.number.specs.declared.CellNo.{CellNo}
 use Rattle.gates.specs.declared.Cell.{Cell}
-use Rattle.order.specs.Paths.{Lent, placed}
-use Rattle.order.specs.Search.{mark, IsBlank, Seen, Stands, zeros}
+use Rattle.order.specs.Paths.{Orderable, placed}
+use Rattle.order.specs.Search.{Lent, mark, IsBlank, Seen, Stands, zeros}
 
 -- two cells are the same or not
 pub same : (x y : CellNo) → Dec (x ≡ y)
@@ -113,3 +113,12 @@ clear-all marks i h z k = go (decLt k i)
 pub still-lent : {cells : List Cell} {marks marks′ stack stack′ : List ℕ} → Lent cells marks stack → length marks′ ≡ length marks
     → length stack′ ≡ length stack → Lent cells marks′ stack′
 still-lent l m s = record { few = l .few; wide = omega (arith, l .wide); deep = omega (arith, l .deep) }
+
+-- Columns of 1,024 entries suffice for all cells that can be ordered, and zeros are no marks.
+pub lent : {cells : List Cell} {marks stack order : List ℕ} → Orderable cells order → length marks ≡ 1024 → length stack ≡ 1024 → Lent cells marks stack
+lent o m s = record { few = omega (arith, o .few); wide = omega (arith, o .few); deep = omega (arith, o .few) }
+
+pub blank : (n : ℕ) → IsBlank (replicate n 0)
+blank zero i = refl
+blank (suc n) zero = refl
+blank (suc n) (suc i) = blank n i

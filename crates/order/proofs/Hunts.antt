@@ -13,8 +13,8 @@ use Rattle.number.specs.declared.CellNo.{CellNo}
 use Rattle.gates.specs.declared.Cell.{Cell}
 use Rattle.gates.specs.Values.{cellAt}
 use Rattle.order.specs.declared.Pins.the-variants.{None, Two}
-use Rattle.order.specs.Paths.{IsCell, pinsOf, Needs, Reaches, one, more, OnCycle, Closed, Lent, placed}
-use Rattle.order.specs.Search.{mark, IsBlank, Seen, Stands, zeros, HasCycle, Hunting, Noted, old, new, Expanded}
+use Rattle.order.specs.Paths.{IsCell, pinsOf, Needs, Reaches, one, more, OnCycle, Closed, placed}
+use Rattle.order.specs.Search.{Lent, mark, IsBlank, Seen, Stands, zeros, HasCycle, Hunting, Noted, old, new, Expanded}
 use Rattle.order.proofs.Operands.{needs-cell, needs-as, needs-first, needs-second, needs-only, needs-none}
 use Rattle.order.proofs.Columns.{same, mark-same, mark-other, still-seen, placed-same, placed-other, still-stands, zeros-new, zeros-all, still-lent}
 

@@ -10,8 +10,8 @@ use borrow.Author.Count.{below-more}
 use Rattle.number.specs.Counts.{cellNo, ofCell}
 use Rattle.number.specs.declared.CellNo.{CellNo}
 use Rattle.gates.specs.declared.Cell.{Cell}
-use Rattle.order.specs.Paths.{IsCell, Needs, Reaches, one, more, OnCycle, Lent, placed, Ordered}
-use Rattle.order.specs.Search.{mark, Seen, IsOpen, IsDone, Stands, zeros, IsBlank, Searching, Went, Through}
+use Rattle.order.specs.Paths.{IsCell, Needs, Reaches, one, more, OnCycle, placed, Ordered}
+use Rattle.order.specs.Search.{Lent, mark, Seen, IsOpen, IsDone, Stands, zeros, IsBlank, Searching, Went, Through}
 use Rattle.order.proofs.Operands.{needs-as}
 use Rattle.order.proofs.Columns.{same, mark-same, mark-other, still-seen, seen-low, placed-same, placed-other, still-stands, zeros-new, zeros-again}
 use Rattle.order.proofs.Columns.{zeros-all, zeros-none, still-lent}

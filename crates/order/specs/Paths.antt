@@ -62,11 +62,11 @@ pub record Closed (cells : List Cell) : Type 0 where
   pub gates : (x y : CellNo) → Needs cells x y → IsCell cells y
   pub registers : (x y : CellNo) → cellAt cells x ≡ Register y → IsCell cells y
 
--- the work columns have an entry for each cell, whose number sixteen bits hold
-pub record Lent (cells : List Cell) (marks stack : List ℕ) : Type 0 where
-  pub few : length cells ≤ 65536
-  pub wide : length cells ≤ length marks
-  pub deep : length cells ≤ length stack
+-- cells that can be ordered: "At most: .. 1,024 cells", each operand one of them, and `order` has a place for each
+pub record Orderable (cells : List Cell) (order : List ℕ) : Type 0 where
+  pub closed : Closed cells
+  pub few : length cells ≤ 1024
+  pub long : length cells ≤ length order
 
 -- the cell at place j of an order
 abbrev pub placed : List ℕ → ℕ → CellNo

@@ -14,7 +14,13 @@ use Rattle.order.specs.declared.Step.{Step}
 use Rattle.order.specs.declared.Step.the-variants.{On, Back}
 use Rattle.order.specs.declared.Visit.{Visit}
 use Rattle.order.specs.declared.Visit.the-variants.{Placed, Cyclic}
-use Rattle.order.specs.Paths.{IsCell, Needs, Reaches, OnCycle, Lent, placed, Ordered}
+use Rattle.order.specs.Paths.{IsCell, Needs, Reaches, OnCycle, placed, Ordered}
+
+-- the work columns have an entry for each cell, whose number sixteen bits hold
+pub record Lent (cells : List Cell) (marks stack : List ℕ) : Type 0 where
+  pub few : length cells ≤ 65536
+  pub wide : length cells ≤ length marks
+  pub deep : length cells ≤ length stack
 
 -- the mark of a cell
 abbrev pub mark : List ℕ → CellNo → ℕ

@@ -6,8 +6,8 @@ ghost use Prim.Native.Nat.{_+_, _<_, _≤_};
 ghost use lib.ListN.{length};
 ghost use Rattle.number.specs.Counts.{ofCell};
 ghost use Rattle.gates.specs.Values.{cellAt};
-ghost use Rattle.order.specs.Paths.{cellsOf, pinsOf, IsCell, OnCycle, Lowest, Closed, Lent, Answers};
-ghost use Rattle.order.specs.Search.{mark, IsBlank, zeros, Searching, IsNext, HasCycle, Stepped, Visited, AllVisited, Noted, Expanded, Decides};
+ghost use Rattle.order.specs.Paths.{cellsOf, pinsOf, IsCell, OnCycle, Lowest, Closed, Orderable, Answers};
+ghost use Rattle.order.specs.Search.{Lent, mark, IsBlank, zeros, Searching, IsNext, HasCycle, Stepped, Visited, AllVisited, Noted, Expanded, Decides};
 
 // The operands that a cell needs in the same clock.
 pub enum Pins {
@@ -237,22 +237,16 @@ fn lowest(cells: &[u64], marks: &mut [u8], stack: &mut [u16]) -> CellNo
     }
 }
 
-// An order of the cells, in the first places of `order`, or the lowest cell on a cycle. Each slice has an entry for each cell, five bytes a cell in all. No
-// number of cells makes the calls nest deeper. What the slices hold at entry does not matter; `marks` and `stack`, and on a cycle `order` too, are left as
-// the search left them.
-pub fn order_cells(
-    cells: &[u64],
-    marks: &mut [u8],
-    stack: &mut [u16],
-    order: &mut [u16],
-) -> Ordering
-    requires { ⌜ Closed (cellsOf (now cells)) × Lent (cellsOf (now cells)) (now marks) (now stack)
-        × (length (cellsOf (now cells)) ≤ length (now order)) ⌝ }
+// An order of the cells, in the first places of `order`, or the lowest cell on a cycle. What `order` holds at entry does not matter; on a cycle it is left as the
+// search left it. No number of cells makes the calls nest deeper.
+pub fn order_cells(cells: &[u64], order: &mut [u16]) -> Ordering
+    requires { ⌜ Orderable (cellsOf (now cells)) (now order) ⌝ }
     ensures { λ r. ⌜ Answers (cellsOf (now (cells .entry))) (now (order .exit)) r ⌝ }
 {
-    clear(marks);
-    match place_all(cells, marks, stack, order) {
+    let mut marks = [0u8; 1024];
+    let mut stack = [0u16; 1024];
+    match place_all(cells, &mut marks, &mut stack, order) {
         Visit::Placed(_) => Ordering::Found,
-        Visit::Cyclic => Ordering::Cycle(lowest(cells, marks, stack)),
+        Visit::Cyclic => Ordering::Cycle(lowest(cells, &mut marks, &mut stack)),
     }
 }

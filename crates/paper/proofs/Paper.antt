@@ -16,14 +16,14 @@ use Rattle.number.specs.Counts.{cellNo}
 use Rattle.gates.specs.Cells.{orAt, andAt, butnotAt}
 use Rattle.gates.specs.Rows.{orRow, pairs, highest, parallelRow}
 use Rattle.gates.specs.Values.{registers, operands}
-use Rattle.builder.specs.Equations.{build, buildHalt, buildEmit, buildSequence, buildLoop, buildPresent, buildWatching, buildParallel, buildTrap}
+use Rattle.parts.specs.Equations.{build, buildHalt, buildEmit, buildSequence, buildLoop, buildPresent, buildWatching, buildParallel, buildTrap}
 use Rattle.builder.specs.Netlist.{netlist, rootOf, inputCells, signalCells}
 use Rattle.order.specs.declared.Ordering.{Ordering}
 use Rattle.order.specs.declared.Ordering.the-variants.{Cycle}
 use Rattle.order.specs.Paths.{Answers}
 use Rattle.order.proofs.Cases.{p5-answer}
 use Rattle.files.specs.File.{cellsBytes, fileBytes, kindFits}
-use Rattle.files.specs.Judge.{manySignals, judgeCount, judgeKind}
+use Rattle.files.specs.Judge.{judgeCount, judgeKind}
 use Rattle.files.specs.Read.{netOf, secondOf, pairOf, inputOf, gate, gateOf, registerOf, operandsAt, ofKind as ofKindOf, afterKind, readCell, before as beforeCells}
 use Rattle.files.specs.Read.{andThen as andThenCells, readCells, ended as endedCells, bodyAt, counted, afterCount, countAt, afterOutputs as afterOutputsOf}
 use Rattle.files.specs.Read.{afterInputs as afterInputsOf, readFile}
@@ -39,7 +39,7 @@ unfolding numberAt pick has size haltCount localCount signalOf naming emitting e
     readStmt ended rootRead afterOutputs afterInputs readSheet K R hasHalts orElse instant climbs firstFault twice wordOf start active resume react
     noBits apart fits reading faultOf answered agreeing moments runsOf statesOf orAt andAt butnotAt orRow pairs highest parallelRow registers operands
     build buildHalt buildEmit buildSequence buildLoop buildPresent buildWatching buildParallel buildTrap netlist rootOf inputCells signalCells solving
-    clocks cellsOf clocksOf numberBytes cellsBytes fileBytes kindFits manySignals judgeCount judgeKind netOf secondOf pairOf inputOf gate gateOf registerOf
+    clocks cellsOf clocksOf numberBytes cellsBytes fileBytes kindFits judgeCount judgeKind netOf secondOf pairOf inputOf gate gateOf registerOf
     operandsAt ofKindOf afterKind readCell beforeCells andThenCells readCells endedCells bodyAt counted afterCount countAt afterOutputsOf afterInputsOf readFile fileOf
     fileCells readBack filed computed
 paper = record { table = refl; files = refl; cycle = p5-answer }

@@ -4,7 +4,6 @@ use mathlib.Core.Bool.{Bool, true, false, not, _&&_, _||_, true≢false, false�
 use mathlib.Core.List.{List}
 use Prim.Native.Nat.{ℕ, _+_, _-_, _<_, _≤_}
 use native.Mathlib.Omega.{arith}
-use native.Mathlib.Decide.{decLt}
 use lib.ListN.{length}
 use Rattle.bits.specs.Bits.{has}
 use Rattle.number.specs.declared.HaltNo.{HaltNo}
@@ -20,7 +19,7 @@ use Rattle.sheet.specs.Stmt.{Stmt, leaf, one, two, haltCount}
 use Rattle.sheet.specs.Read.{further}
 use Rattle.sheet.specs.Rows.{haltsOn, rowAt, lay, Holds}
 use Rattle.sheet.specs.Form.{Proper}
-use Rattle.sheet.proofs.Walk.{IsTwo, is-leaf, is-one, is-two, holds-second, first-of, past-of, holds-proper}
+use Rattle.sheet.proofs.Walk.{IsTwo, is-leaf, is-one, is-two, holds-second, past-of, holds-proper}
 use Rattle.sets.specs.Static.{K, R}
 use Rattle.sets.specs.Words.{Low, Entered, Kept}
 use Rattle.sets.proofs.Bools.{taut}
@@ -183,17 +182,7 @@ left-alone = taut 1 0 _ _ _ tt
 
 -- a whole sheet has at most 63 halts
 pub root-past : {rows sets : List ℕ} → Whole rows sets → ofHalt (rowAt rows root .past) ≤ 63
-root-past {rows} whole = go (decLt (ofHalt (rowAt rows root .first)) (ofHalt (rowAt rows root .past)))
-  where
-    run : Runnable rows root
-    run = whole .known .run
-
-    zero-first : ofHalt (rowAt rows root .first) ≡ 0
-    zero-first = ap (λ (x : HaltNo). ofHalt x) (first-of rows root (run .first) (run .stmt) (run .holds) ∙ whole .from-zero)
-
-    go : Dec (ofHalt (rowAt rows root .first) < ofHalt (rowAt rows root .past)) → ofHalt (rowAt rows root .past) ≤ 63
-    go (yes l) = omega (arith, inside-few run l)
-    go (no l) = omega (arith, zero-first)
+root-past whole = inside-few (whole .known .run) .1
 
 -- the whole state
 module _ (rows : List ℕ) (w : ℕ) where
@@ -223,5 +212,5 @@ pub whole-proper : {i o : ℕ} {t : Stmt} (rows sets : List ℕ) → Proper i o 
     → Whole (lay rows root (haltNo 0) t) sets
 whole-proper {i} {o} {t} rows sets h room low kept =
     let run : Runnable (lay rows root (haltNo 0) t) root =
-    record { first = haltNo 0; stmt = t; holds = holds-proper i o rows t h room; words = proper-words h } in
+    record { first = haltNo 0; stmt = t; holds = holds-proper i o rows t h room; words = proper-words h; few = omega (arith, h .halts) } in
     record { known = record { run = run; low = low; kept = kept }; from-zero = refl }

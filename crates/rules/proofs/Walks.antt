@@ -1,10 +1,9 @@
 -- What the walks over the rows stand on: where a part stands, that its walk is shorter, and what a statement's run is by those of its parts.
 use mathlib.Core.Path.{_≡_, refl, sym, ap, _∙_, subst}
-use mathlib.Core.Bool.{Bool, true, false, not, _&&_, _||_}
+use mathlib.Core.Bool.{Bool, true, false, not, _&&_, _||_, false≢true, true≢false}
 use mathlib.Core.List.{List}
 use Prim.Native.Nat.{ℕ, _+_, _-_, _<_, _≤_}
 use native.Mathlib.Omega.{arith}
-use native.Mathlib.Decide.{decLt}
 use lib.ListN.{length}
 use Rattle.bits.specs.Bits.{has, signalsIn}
 use Rattle.number.specs.declared.SignalNo.{SignalNo}
@@ -28,9 +27,9 @@ use Rattle.sheet.proofs.Walk.{size-pos, head-of, first-of, past-of, few-numbers
 use Rattle.sheet.proofs.Walk.{holds-second, tree-within, tree-end, tree-left, holds-proper}
 use Rattle.sets.proofs.Bools.{taut}
 use Rattle.rules.specs.declared.Reaction.{Reaction}
-use Rattle.rules.specs.Rules.{Signals, Outcome, followed, beside, start, active}
+use Rattle.rules.specs.Rules.{Signals, Outcome, followed, beside, trapped, start, active}
 use Rattle.rules.specs.States.{State, haltBit, haltsOf, noBits}
-use Rattle.rules.specs.Words.{haltsIn, Means, LeafInWord, InWords, Runnable, passed, Started, root, Inside}
+use Rattle.rules.specs.Words.{haltsIn, Means, LeafInWord, InWords, Runnable, isTrap, Started, root, Inside}
 use Rattle.rules.proofs.NoBits.{no-bits-parts}
 use Rattle.rules.proofs.Meanings.{stopped-means}
 
@@ -78,11 +77,12 @@ module _ {rows : List ℕ} {n : StmtNo} (run : Runnable rows n) where
       words .0
 
   pub run-one : {u : Unary} → rowAt rows n .head ≡ One u → Runnable rows (further n 1)
-  unfolding InWords
+  unfolding InWords haltCount
   run-one {u} e =
       let k = is-one rows n (run .first) (run .stmt) (run .holds) e in
       let words : InWords (run .first) (one u (k .part)) = subst (λ (x : Stmt). InWords (run .first) x) (k .is) (run .words) in
-      record { first = run .first; stmt = k .part; holds = k .holds; words = words }
+      let few : ofHalt (run .first) + haltCount (one u (k .part)) ≤ 63 = subst (λ (x : Stmt). ofHalt (run .first) + haltCount x ≤ 63) (k .is) (run .few) in
+      record { first = run .first; stmt = k .part; holds = k .holds; words = words; few = few }
 
   module _ {b : Binary} (e : rowAt rows n .head ≡ Two b) where
     sides : IsTwo rows n (run .first) (run .stmt) b
@@ -92,8 +92,13 @@ module _ {rows : List ℕ} {n : StmtNo} (run : Runnable rows n) where
     unfolding InWords
     side-words = subst (λ (x : Stmt). InWords (run .first) x) (sides .is) (run .words)
 
+    side-few : ofHalt (run .first) + (haltCount (sides .left) + haltCount (sides .right)) ≤ 63
+    unfolding haltCount
+    side-few = subst (λ (x : Stmt). ofHalt (run .first) + haltCount x ≤ 63) (sides .is) (run .few)
+
     pub run-left : Runnable rows (further n 1)
-    run-left = record { first = run .first; stmt = sides .left; holds = sides .holds-left; words = side-words .0 }
+    run-left =
+        record { first = run .first; stmt = sides .left; holds = sides .holds-left; words = side-words .0; few = omega (arith, side-few) }
 
     pub run-right : Runnable rows (rowAt rows (further n 1) .end)
     run-right =
@@ -102,21 +107,27 @@ module _ {rows : List ℕ} {n : StmtNo} (run : Runnable rows n) where
           stmt = sides .right;
           holds = holds-second rows n (run .first) sides;
           words = side-words .1;
+          few = omega (arith, side-few);
         }
 
     -- the second part lies further on
     pub right-further : ofStmt n < ofStmt (rowAt rows (further n 1) .end)
     right-further = omega (arith, tree-end (tree-left tree-of e) .0)
 
-    pub right-within : ofStmt (rowAt rows (further n 1) .end) < length rows
-    right-within = tree-within (record { first = run-right .first; stmt = run-right .stmt; holds = run-right .holds })
-
-start-passed : (E : Signals) (u : Unary) (p : Stmt) → start E (one u p) ≡ passed u (start E p)
+-- all but a trap start as their part does
+as-part : (E : Signals) (u : Unary) (p : Stmt) → isTrap u ≡ false → start E (one u p) ≡ start E p
 unfolding start
-start-passed E Loop p = refl
-start-passed E (Watching s) p = refl
-start-passed E Trap p = refl
-start-passed E (Signal s) p = refl
+as-part E Loop p e = refl
+as-part E (Watching s) p e = refl
+as-part E Trap p e = absurd (true≢false e)
+as-part E (Signal s) p e = refl
+
+as-trap : (E : Signals) (u : Unary) (p : Stmt) → isTrap u ≡ true → start E (one u p) ≡ trapped (start E p)
+unfolding start
+as-trap E Loop p e = absurd (false≢true e)
+as-trap E (Watching s) p e = absurd (false≢true e)
+as-trap E Trap p e = refl
+as-trap E (Signal s) p e = absurd (false≢true e)
 
 -- A statement started, by its parts.
 module _ (rows : List ℕ) (n : StmtNo) (e : ℕ) where
@@ -126,14 +137,20 @@ module _ (rows : List ℕ) (n : StmtNo) (e : ℕ) where
   pub start-leaf : {l : Leaf} {r : Reaction} → rowAt rows n .head ≡ Zero l → ((X : Signals) → Means r (start X (leaf l))) → Started rows n e r
   start-leaf head f = record { means = λ a t h. rw (is-leaf rows n a t h head) (f E) }
 
-  pub start-one : {u : Unary} {p r : Reaction} → rowAt rows n .head ≡ One u → Started rows (further n 1) e p
-      → ((o : Outcome) → Means p o → Means r (passed u o)) → Started rows n e r
-  start-one {u} {r = r} head part f = record { means = means }
-    where
-      means : (a : HaltNo) (t : Stmt) → Holds rows n a t → Means r (start E t)
-      means a t h =
-          let k = is-one rows n a t h head in
-          rw (k .is, start-passed E u (k .part)) (f (start E (k .part)) (part .means a (k .part) (k .holds)))
+  module _ {u : Unary} {p : Reaction} (head : rowAt rows n .head ≡ One u) (part : Started rows (further n 1) e p) where
+    pub start-part : isTrap u ≡ false → Started rows n e p
+    start-part is = record { means = means }
+      where
+        means : (a : HaltNo) (t : Stmt) → Holds rows n a t → Means p (start E t)
+        means a t h = let k = is-one rows n a t h head in rw (k .is, as-part E u (k .part) is) (part .means a (k .part) (k .holds))
+
+    pub start-trap : {r : Reaction} → isTrap u ≡ true → ((o : Outcome) → Means p o → Means r (trapped o)) → Started rows n e r
+    start-trap {r} is f = record { means = means }
+      where
+        means : (a : HaltNo) (t : Stmt) → Holds rows n a t → Means r (start E t)
+        means a t h =
+            let k = is-one rows n a t h head in
+            rw (k .is, as-trap E u (k .part) is) (f (start E (k .part)) (part .means a (k .part) (k .holds)))
 
   module _ {b : Binary} {p q r : Reaction} (head : rowAt rows n .head ≡ Two b)
       (of : (x y : Stmt) → Means p (start E x) → Means q (start E y) → Means r (start E (two b x y))) where
@@ -212,43 +229,16 @@ active-bits S a (two b p q) w =
     rw (active-bits S a p (w .0), active-bits S a₂ q (w .1), no-bits-parts (haltCount p) (haltCount q) (1 + ofHalt a) S, here)
     (active-either (noBits (haltCount p) (1 + ofHalt a) S) (noBits (haltCount q) (1 + ofHalt a₂) S))
 
--- the last halt's bit is one of a word's
-few-halts : (a : HaltNo) (t : Stmt) → InWords a t → 0 < haltCount t → ofHalt a + haltCount t < 64
-unfolding haltCount InWords
-few-halts a (leaf Nothing) w some = absurd (omega arith)
-few-halts a (leaf (Halt h)) w some = let first : ofHalt h ≡ ofHalt a = ap (λ (x : HaltNo). ofHalt x) (w .1) in omega (arith, w .0)
-few-halts a (leaf (Emit s)) w some = absurd (omega arith)
-few-halts a (leaf (Exit k)) w some = absurd (omega arith)
-few-halts a (one u p) w some = few-halts a p w some
-few-halts a (two b p q) w some =
-    go (decLt 0 (haltCount q)) (few-halts a p (w .0)) (few-halts (haltsOn a (haltCount p)) q (w .1))
-  where
-    go : Dec (0 < haltCount q) → (0 < haltCount p → ofHalt a + haltCount p < 64) → (0 < haltCount q → ofHalt a + haltCount p + haltCount q < 64)
-        → ofHalt a + (haltCount p + haltCount q) < 64
-    go (yes k) left right = omega (arith, right k)
-    go (no k) left right = let here = left (omega arith) in omega arith
-
 module _ {rows : List ℕ} {n : StmtNo} (run : Runnable rows n) where
   -- the row's two numbers
   row-halts : (a : HaltNo) (t : Stmt) → Holds rows n a t
       → (ofHalt (rowAt rows n .first) ≡ ofHalt a) × (ofHalt (rowAt rows n .past) ≡ ofHalt a + haltCount t)
   row-halts a t h = (ap (λ (x : HaltNo). ofHalt x) (first-of rows n a t h), ap (λ (x : HaltNo). ofHalt x) (past-of rows n a t h))
 
-  pub inside-few : ofHalt (rowAt rows n .first) < ofHalt (rowAt rows n .past) → ofHalt (rowAt rows n .past) < 64
-  inside-few l =
+  pub inside-few : (ofHalt (rowAt rows n .first) ≤ ofHalt (rowAt rows n .past)) × (ofHalt (rowAt rows n .past) ≤ 63)
+  inside-few =
       let row = row-halts (run .first) (run .stmt) (run .holds) in
-      omega (arith, row .0, row .1, few-halts (run .first) (run .stmt) (run .words) (omega (arith, row .0, row .1)))
-
-  -- a statement without halts
-  pub inside-none : (w : ℕ) → ofHalt (rowAt rows n .past) ≤ ofHalt (rowAt rows n .first) → Inside rows n w false
-  unfolding noBits
-  inside-none w l = record { answer = answer }
-    where
-      answer : (a : HaltNo) (t : Stmt) → Holds rows n a t → false ≡ active (haltsIn w) t
-      answer a t h =
-          let row = row-halts a t h in
-          let none : haltCount t ≡ 0 = omega (arith, row .0, row .1) in
-          sym (rw none at (active-bits (has w) a t (words-of run a t h)))
+      (omega (arith, row .0, row .1), omega (arith, row .0, row .1, run .few))
 
   pub inside-some : (w : ℕ) (off : Bool)
       → off ≡ noBits (ofHalt (rowAt rows n .past) - ofHalt (rowAt rows n .first)) (haltBit (rowAt rows n .first)) (has w) → Inside rows n w (not off)
@@ -276,4 +266,4 @@ proper-words {t = t} h = placed-words _ _ (haltNo 0) t (h .signals) (proper-scop
 
 -- so its rows can be run
 pub run-proper : {i o : ℕ} {t : Stmt} (rows : List ℕ) → Proper i o t → 256 ≤ length rows → Runnable (lay rows root (haltNo 0) t) root
-run-proper {i} {o} {t} rows h room = record { first = haltNo 0; stmt = t; holds = holds-proper i o rows t h room; words = proper-words h }
+run-proper {i} {o} {t} rows h room = record { first = haltNo 0; stmt = t; holds = holds-proper i o rows t h room; words = proper-words h; few = omega (arith, h .halts) }

@@ -1,10 +1,10 @@
 -- "Reaction rules": "E is the set of present signals. A statement yields emissions, a code and halts."
-use mathlib.Core.Bool.{Bool, true, false, _||_}
+use mathlib.Core.Bool.{Bool, false, _||_}
 use Prim.Native.Nat.{ℕ, zero, suc}
 use lib.Dec.{eqb}
 use Rattle.number.specs.declared.SignalNo.{SignalNo}
 use Rattle.number.specs.declared.HaltNo.{HaltNo}
-use Rattle.number.specs.Counts.{ofSignal, ofHalt}
+use Rattle.number.specs.Counts.{ofHalt}
 use Rattle.number.specs.Number.{pick}
 use Rattle.sheet.specs.declared.Leaf.the-variants.{Nothing, Halt, Emit, Exit}
 use Rattle.sheet.specs.declared.Unary.the-variants.{Loop, Watching, Trap, Signal}

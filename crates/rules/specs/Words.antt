@@ -2,13 +2,12 @@
 use mathlib.Core.Path.{_≡_}
 use mathlib.Core.Bool.{Bool, true, false, not, _&&_, _||_}
 use mathlib.Core.List.{List}
-use Prim.Native.Nat.{ℕ, _<_}
-use lib.Dec.{eqb}
+use Prim.Native.Nat.{ℕ, _+_, _<_, _≤_}
 use Rattle.bits.specs.Bits.{has, signalsIn}
 use Rattle.number.specs.declared.SignalNo.{SignalNo}
 use Rattle.number.specs.declared.HaltNo.{HaltNo}
 use Rattle.number.specs.declared.StmtNo.{StmtNo}
-use Rattle.number.specs.Counts.{ofSignal, haltNo, stmtNo}
+use Rattle.number.specs.Counts.{ofSignal, haltNo, ofHalt, stmtNo}
 use Rattle.number.specs.Number.{pick}
 use Rattle.sheet.specs.declared.Leaf.{Leaf}
 use Rattle.sheet.specs.declared.Leaf.the-variants.{Nothing, Halt, Emit, Exit}
@@ -20,7 +19,7 @@ use Rattle.sheet.specs.Stmt.{Stmt, leaf, one, two, haltCount}
 use Rattle.sheet.specs.Rows.{Holds, haltsOn}
 use Rattle.sets.specs.Words.{Low, Kept}
 use Rattle.rules.specs.declared.Reaction.{Reaction}
-use Rattle.rules.specs.Rules.{Signals, Halts, Outcome, idle, beside, trapped, start, active, resume}
+use Rattle.rules.specs.Rules.{Signals, Halts, Outcome, idle, start, active, resume}
 use Rattle.rules.specs.States.{boot, haltBit, haltsOf, react, nextState, apart, fits}
 
 -- the halts in a state's word
@@ -52,12 +51,13 @@ InWords a (leaf l) = LeafInWord l × LeafFrom a l
 InWords a (one u p) = InWords a p
 InWords a (two b p q) = InWords a p × InWords (haltsOn a (haltCount p)) q
 
--- such a statement stands at row n
+-- such a statement stands at row n, its halts among the 63 that a state has bits for
 pub record Runnable (rows : List ℕ) (n : StmtNo) : Type 0 where
   pub first : HaltNo
   pub stmt : Stmt
   pub holds : Holds rows n first stmt
   pub words : InWords first stmt
+  pub few : ofHalt first + haltCount stmt ≤ 63
 
 -- "Resumed (only where one of the state's halts lies inside).": elsewhere nothing is done
 abbrev pub resumed : Signals → Halts → Stmt → Outcome
@@ -70,42 +70,17 @@ pub record Started (rows : List ℕ) (n : StmtNo) (e : ℕ) (r : Reaction) : Typ
 pub record Resumed (rows : List ℕ) (n : StmtNo) (e w : ℕ) (r : Reaction) : Type 0 where
   pub means : (a : HaltNo) (t : Stmt) → Holds rows n a t → Means r (resumed (signalsIn e) (haltsIn w) t)
 
--- What a statement with one part makes of the part's outcome. "Loop, signal, watching: as p. .. Trap: .."
-abbrev pub passed : Unary → Outcome → Outcome
-passed Loop o = o
-passed (Watching s) o = o
-passed Trap o = trapped o
-passed (Signal s) o = o
-
--- "Watching: s in E gives 0 and nothing more"
-abbrev pub cutOff : Signals → Unary → Bool
-cutOff E Loop = false
-cutOff E (Watching s) = E s
-cutOff E Trap = false
-cutOff E (Signal s) = false
-
--- "Loop: p; on 0, p is started", "a sequence whose left gives 0 starts its right"
-abbrev pub restarts : Unary → ℕ → Bool
-restarts Loop c = eqb c 0
-restarts (Watching s) c = false
-restarts Trap c = false
-restarts (Signal s) c = false
-
-abbrev pub goesOn : Binary → ℕ → Bool
-goesOn Sequence c = eqb c 0
-goesOn (Present s) c = false
-goesOn Parallel c = false
+-- the statements that the rules treat apart: "Loop, signal, watching: as p. .. Trap: ..", and a parallel, both sides of which run
+abbrev pub isTrap : Unary → Bool
+isTrap Loop = false
+isTrap (Watching s) = false
+isTrap Trap = true
+isTrap (Signal s) = false
 
 abbrev pub isParallel : Binary → Bool
 isParallel Sequence = false
 isParallel (Present s) = false
 isParallel Parallel = true
-
--- "Sequence and present: the side with halts"; of a parallel "another side counts as 0": what comes of the right side where the left one has no halt
-abbrev pub rightAlone : Binary → Outcome → Outcome
-rightAlone Sequence o = o
-rightAlone (Present s) o = o
-rightAlone Parallel o = beside idle o
 
 -- "no sequence or present has halts on both sides; where one side alone of a parallel has halts, the other has 0 in K or R": whether p and q have
 -- halts, and whether each may end

@@ -7,10 +7,10 @@ use sheet::Leaf;
 use sheet::Unary;
 ghost use mathlib.Core.Path.{_≡_};
 ghost use mathlib.Core.Bool.{true};
-ghost use Prim.Native.Nat.{ℕ, _+_, _-_, _<_, _≤_};
-ghost use lib.ListN.{length, getD};
-ghost use Rattle.bits.specs.Bits.{has, signalsIn};
-ghost use Rattle.number.specs.Counts.{ofStmt, ofHalt};
+ghost use Prim.Native.Nat.{_+_, _-_, _<_, _≤_};
+ghost use lib.ListN.{length};
+ghost use Rattle.bits.specs.Bits.{has};
+ghost use Rattle.number.specs.Counts.{ofStmt};
 ghost use Rattle.sheet.specs.Read.{further};
 ghost use Rattle.sheet.specs.Rows.{rowAt};
 ghost use Rattle.sheet.specs.Stmt.{leaf};
@@ -18,7 +18,7 @@ ghost use Rattle.sets.specs.Codes.{caught, larger};
 ghost use Rattle.rules.specs.Rules.{Signals, Outcome, idle, followed, beside, trapped, start};
 ghost use Rattle.rules.specs.States.{haltBit, noBits, atRest};
 ghost use Rattle.rules.specs.Words.{Means, LeafInWord, Runnable, Started, Resumed, root, Reacted, Next, Inside, Known, ToldApart, Whole, Fitted};
-ghost use Rattle.rules.specs.Words.{passed, cutOff, restarts, goesOn, isParallel, rightAlone, sidesFit};
+ghost use Rattle.rules.specs.Words.{isTrap, isParallel, sidesFit};
 
 // What a run of a statement yields. A halt stands at its bit of the state. The code has a word of its own, since a struct without gaps is handed on faster.
 pub struct Reaction {
@@ -134,22 +134,19 @@ fn trapped(a: Reaction) -> Reaction
     }
 }
 
-// Whether none of the `count` bits from `bit` on is set.
-fn none_set(state: u64, bit: u32, count: u32) -> bool
-    requires { ⌜ (0 < bit) × (bit + count ≤ 64) ⌝ }
-    ensures { λ r. ⌜ r ≡ noBits count bit (has state) ⌝ }
+// Whether none of the `count` halts from `first` on is set in a state.
+fn none_set(state: u64, first: u32, count: u32) -> bool
+    requires { ⌜ first + count ≤ 63 ⌝ }
+    ensures { λ r. ⌜ r ≡ noBits count (1 + first) (has state) ⌝ }
 {
-    if count == 0 {
-        return true;
-    }
-    (state >> bit) % (1u64 << count) == 0
+    (state >> 1 >> first) % (1u64 << count) == 0
 }
 
 // "A state is at rest when no halt bit is set."
 pub fn at_rest(state: u64) -> bool
     ensures { λ r. ⌜ r ≡ atRest (has state) ⌝ }
 {
-    none_set(state, 1, 63)
+    none_set(state, 0, 63)
 }
 
 // The number of a statement's second part: the end of the first one's row.
@@ -169,23 +166,19 @@ fn inside(rows: &[u64], n: StmtNo, state: u64) -> bool
     let row = sheet::row_at(rows, n);
     let first = row.first;
     let past = row.past;
-    let a = first.number();
-    let b = past.number();
-    if b <= a {
-        return false;
-    }
-    !none_set(state, halt_bit(first), (b - a) as u32)
+    let a = first.number() as u32;
+    let b = past.number() as u32;
+    !none_set(state, a, b - a)
 }
 
-// What a statement with one part makes of its part's run: only a trap changes it.
-fn passed(u: Unary, p: Reaction) -> Reaction
-    ensures { λ r. ⌜ ((o : Outcome) → Means p o → Means r (passed u o)) ⌝ }
+fn is_trap(u: Unary) -> bool
+    ensures { λ r. ⌜ r ≡ isTrap u ⌝ }
 {
     match u {
-        Unary::Loop => p,
-        Unary::Watching(_) => p,
-        Unary::Trap => trapped(p),
-        Unary::Signal(_) => p,
+        Unary::Loop => false,
+        Unary::Watching(_) => false,
+        Unary::Trap => true,
+        Unary::Signal(_) => false,
     }
 }
 
@@ -198,7 +191,13 @@ pub fn start(rows: &[u64], n: StmtNo, e: u64) -> Reaction
     let head = row.head;
     match head {
         Head::Zero(l) => leaf(l),
-        Head::One(u) => passed(u, start(rows, sheet::first_part(n), e)),
+        Head::One(u) => {
+            let part = sheet::first_part(n);
+            if is_trap(u) {
+                return trapped(start(rows, part, e));
+            }
+            start(rows, part, e)
+        }
         Head::Two(b) => match b {
             Binary::Sequence => {
                 let p = start(rows, sheet::first_part(n), e);
@@ -221,40 +220,6 @@ pub fn start(rows: &[u64], n: StmtNo, e: u64) -> Reaction
     }
 }
 
-// A guard whose signal is there.
-fn cut_off(u: Unary, e: u64) -> bool
-    ensures { λ r. ⌜ r ≡ cutOff (signalsIn e) u ⌝ }
-{
-    match u {
-        Unary::Loop => false,
-        Unary::Watching(s) => bits::member(e, s.number() as u32),
-        Unary::Trap => false,
-        Unary::Signal(_) => false,
-    }
-}
-
-// A loop whose part ended, and a sequence whose left did.
-fn restarts(u: Unary, code: u64) -> bool
-    ensures { λ r. ⌜ r ≡ restarts u code ⌝ }
-{
-    match u {
-        Unary::Loop => code == 0,
-        Unary::Watching(_) => false,
-        Unary::Trap => false,
-        Unary::Signal(_) => false,
-    }
-}
-
-fn goes_on(b: Binary, code: u64) -> bool
-    ensures { λ r. ⌜ r ≡ goesOn b code ⌝ }
-{
-    match b {
-        Binary::Sequence => code == 0,
-        Binary::Present(_) => false,
-        Binary::Parallel => false,
-    }
-}
-
 fn is_parallel(b: Binary) -> bool
     ensures { λ r. ⌜ r ≡ isParallel b ⌝ }
 {
@@ -265,17 +230,7 @@ fn is_parallel(b: Binary) -> bool
     }
 }
 
-// What comes of the second part, where the first one has no halt of the state.
-fn right_alone(b: Binary, q: Reaction) -> Reaction
-    ensures { λ r. ⌜ ((o : Outcome) → Means q o → Means r (rightAlone b o)) ⌝ }
-{
-    if is_parallel(b) {
-        return beside(idle(), q);
-    }
-    q
-}
-
-// The statement at row n, in which one of the state's halts lies, resumed. A side of a parallel without one does nothing.
+// The statement at row n, in which one of the state's halts lies, resumed.
 pub fn resume(rows: &[u64], n: StmtNo, e: u64, state: u64) -> Reaction
     requires { ⌜ Runnable (now rows) n × Inside (now rows) n state true ⌝ }
     ensures { λ r. ⌜ Resumed (now (rows .entry)) n e state r ⌝ }
@@ -284,33 +239,63 @@ pub fn resume(rows: &[u64], n: StmtNo, e: u64, state: u64) -> Reaction
     let head = row.head;
     match head {
         Head::Zero(l) => leaf(l),
-        Head::One(u) => {
-            if cut_off(u, e) {
+        Head::One(u) => resume_part(rows, n, u, e, state),
+        Head::Two(b) => resume_sides(rows, n, b, e, state),
+    }
+}
+
+// What a statement of kind u does with its one part.
+fn resume_part(rows: &[u64], n: StmtNo, u: Unary, e: u64, state: u64) -> Reaction
+    requires { ⌜ Runnable (now rows) n × Inside (now rows) n state true × (rowAt (now rows) n .head ≡ Head.One u) ⌝ }
+    ensures { λ r. ⌜ Resumed (now (rows .entry)) n e state r ⌝ }
+{
+    let part = sheet::first_part(n);
+    match u {
+        Unary::Loop => {
+            let p = resume(rows, part, e, state);
+            if p.code != 0 {
+                return p;
+            }
+            followed(p, start(rows, part, e))
+        }
+        Unary::Watching(s) => {
+            if bits::member(e, s.number() as u32) {
                 return idle();
             }
-            let p = resume(rows, sheet::first_part(n), e, state);
-            if restarts(u, p.code) {
-                return followed(p, start(rows, sheet::first_part(n), e));
-            }
-            passed(u, p)
+            resume(rows, part, e, state)
         }
-        Head::Two(b) => {
-            let second = second_part(rows, n);
-            if !inside(rows, sheet::first_part(n), state) {
-                let q = resume(rows, second, e, state);
-                return right_alone(b, q);
+        Unary::Trap => trapped(resume(rows, part, e, state)),
+        Unary::Signal(_) => resume(rows, part, e, state),
+    }
+}
+
+// What a statement of kind b does with its two parts. A side of a parallel without a halt of the state does nothing.
+fn resume_sides(rows: &[u64], n: StmtNo, b: Binary, e: u64, state: u64) -> Reaction
+    requires { ⌜ Runnable (now rows) n × Inside (now rows) n state true × (rowAt (now rows) n .head ≡ Head.Two b) ⌝ }
+    ensures { λ r. ⌜ Resumed (now (rows .entry)) n e state r ⌝ }
+{
+    let first = sheet::first_part(n);
+    let second = second_part(rows, n);
+    if !inside(rows, first, state) {
+        if is_parallel(b) {
+            return beside(idle(), resume(rows, second, e, state));
+        }
+        return resume(rows, second, e, state);
+    }
+    let p = resume(rows, first, e, state);
+    match b {
+        Binary::Sequence => {
+            if p.code != 0 {
+                return p;
             }
-            let p = resume(rows, sheet::first_part(n), e, state);
-            if is_parallel(b) {
-                if !inside(rows, second, state) {
-                    return beside(p, idle());
-                }
-                return beside(p, resume(rows, second, e, state));
+            followed(p, start(rows, second, e))
+        }
+        Binary::Present(_) => p,
+        Binary::Parallel => {
+            if !inside(rows, second, state) {
+                return beside(p, idle());
             }
-            if goes_on(b, p.code) {
-                return followed(p, start(rows, second, e));
-            }
-            p
+            beside(p, resume(rows, second, e, state))
         }
     }
 }
@@ -400,12 +385,13 @@ pub fn fits(rows: &[u64], sets: &[u64], state: u64) -> bool
     ensures { λ r. ⌜ Fitted (now (rows .entry)) state r ⌝ }
 {
     if !bits::member(state, BOOT) {
-        return none_set(state, 1, 63);
+        return none_set(state, 0, 63);
     }
     let root = StmtNo::new(0);
     let row = sheet::row_at(rows, root);
     let past = row.past;
-    if !none_set(state, halt_bit(past), 63 - (past.number() as u32)) {
+    let halts = past.number() as u32;
+    if !none_set(state, halts, 63 - halts) {
         return false;
     }
     apart(rows, sets, root, state)

@@ -1,12 +1,12 @@
 -- The registers' bits and operands, found in one pass over the cells; and the next state that the operands feed.
 use Prim.Native.Nat.{ℕ, zero, suc, _+_, _<_, _≤_}
 use mathlib.Core.Path.{_≡_, refl, sym, ap, ap₂, _∙_, subst}
-use mathlib.Core.Bool.{Bool, true, false, _&&_, _||_, or-false, and-false}
+use mathlib.Core.Bool.{Bool, false, _&&_, _||_, or-false}
 use mathlib.Core.List.{List, [], _∷_, _++_, map}
 use native.Mathlib.Omega.{arith}
 use native.Mathlib.Decide.{decLt, ℕ-discrete}
 use lib.Dec.{eqb, ltb}
-use lib.ListN.{length, getD, take, set, length-set, length-append, length-map, List·getD-map, List·getD-eq-default}
+use lib.ListN.{length, getD, take, set, length-set, length-append, length-map, List·getD-eq-default}
 use lib.Seq.{sets, sets-eq, length-sets, length-take-le, take-all, take-at, getD-set-same, getD-set-other}
 use borrow.Author.Tests.{eq-eqb, ne-eqb, lt-ltb, le-ltb}
 use Rattle.number.specs.Counts.{cellNo, ofCell}
@@ -16,8 +16,8 @@ use Rattle.bits.proofs.Laws.{empty}
 use Rattle.gates.specs.declared.Cell.{Cell}
 use Rattle.gates.specs.declared.Cell.the-variants.{Low, High, Input, Or, And, Butnot, Register}
 use Rattle.gates.specs.Values.{cellAt, tally, registers, before, operands, nextOf}
-use Rattle.order.specs.Paths.{IsCell, Closed}
-use Rattle.run.specs.React.{Numbered, operandsOf, fed, Numberable, Numbers}
+use Rattle.order.specs.Paths.{Closed}
+use Rattle.run.specs.React.{operandsOf, fed, Numberable, Numbers}
 use Rattle.run.proofs.Counting.{one-more, Counted, counted-none, counted-next, counted-room, counted-all}
 
 operands-append : (a b : List Cell) → operandsOf (a ++ b) ≡ operandsOf a ++ operandsOf b

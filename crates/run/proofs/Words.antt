@@ -36,8 +36,3 @@ event-no-tick I event e = not-true (has event 0) (both (not (has event 0)) (none
 
 pub event-own : (I event : ℕ) → eventOk I event ≡ true → (s : SignalNo) → I < ofSignal s → signalsIn event s ≡ false
 event-own I event e s h = none-past (1 + I) event (both (not (has event 0)) (noneFrom (1 + I) event) e .1) (ofSignal s) (omega arith)
-
--- .. and a word with no such bit is an event
-pub event-is : (I event : ℕ) → signalsIn event (signalNo 0) ≡ false → ((s : SignalNo) → I < ofSignal s → signalsIn event s ≡ false)
-    → eventOk I event ≡ true
-event-is I event tick own = rw (tick, past-none (1 + I) event (λ j h. own (signalNo j) (omega arith)))

@@ -1,9 +1,9 @@
 -- Events, states and outputs as words.
 use mathlib.Core.Bool.{Bool, not, _&&_}
-use Prim.Native.Nat.{ℕ, suc, _+_, _/_, _^_}
+use Prim.Native.Nat.{ℕ, _+_, _/_, _^_}
 use lib.Dec.{eqb, ltb, leb}
 use Rattle.gates.specs.Cells.{signalCell}
-use Rattle.number.specs.Counts.{cellNo, ofSignal}
+use Rattle.number.specs.Counts.{ofSignal}
 use Rattle.number.specs.declared.CellNo.{CellNo}
 use Rattle.number.specs.declared.SignalNo.{SignalNo}
 use Rattle.bits.specs.Bits.{has}

@@ -16,7 +16,7 @@ use Rattle.sheet.specs.Read.{further}
 use Rattle.sets.specs.declared.Both.{Both}
 use Rattle.sets.specs.Codes.{Codes}
 use Rattle.sets.specs.Static.{K, R}
-use Rattle.sets.specs.Words.{codeCount, Low, digit, wordOf, entryOf, filled, Entered, Kept, Means, Filled}
+use Rattle.sets.specs.Words.{codeCount, Low, digit, wordOf, entryOf, filled, Entered, Kept, Means}
 use Rattle.sets.proofs.Words.{by-bits}
 use Rattle.sets.proofs.Bounds.{Bounded, K-low, R-low}
 use Rattle.sets.proofs.Meaning.{bothOf}
@@ -157,8 +157,3 @@ kept-filled sets n (two b p q) room =
       kept-agree sets₁ sets₃ n₁ p (len₃ ∙ len₂) after₁ (kept-filled sets n₁ p (omega arith)),
       kept-agree sets₂ sets₃ n₂ q len₃ after₂ (kept-filled sets₁ n₂ q (omega arith)),
     )
-
--- so what the walk leaves is a column that later walks can read
-pub filled-kept : {n : StmtNo} {t : Stmt} {b : Both} {before after : List ℕ} → Filled n t b before after → ofStmt n + size t ≤ length before
-    → Kept after n t
-filled-kept {n} {t} {before = before} f room = rw (f .column) (kept-filled before n t room)

@@ -1,7 +1,7 @@
 -- INSTANT and TWICE, each with the statement's number that is its place.
-use mathlib.Core.Bool.{Bool, true, false, _||_}
+use mathlib.Core.Bool.{Bool, false, _||_}
 use mathlib.Core.List.{List, [], _∷_, _++_, map}
-use Prim.Native.Nat.{ℕ, _+_}
+use Prim.Native.Nat.{_+_}
 use Rattle.number.specs.declared.StmtNo.{StmtNo}
 use Rattle.number.specs.Number.{pick}
 use Rattle.sheet.specs.declared.Unary.the-variants.{Loop, Watching, Trap, Signal}

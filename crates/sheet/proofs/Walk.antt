@@ -238,9 +238,6 @@ holds-proper i o rows t h room =
           (proper-numbered h) (proper-scoped h) (proper-exits h);
     })
 
-pub tree-proper : (i o : ℕ) (rows : List ℕ) (t : Stmt) → Proper i o t → 256 ≤ length rows → Tree (lay rows (stmtNo 0) (haltNo 0) t) (stmtNo 0)
-tree-proper i o rows t h room = record { first = haltNo 0; stmt = t; holds = holds-proper i o rows t h room }
-
 -- What rows that hold t say. Its own row, and that all its rows are there:
 module _ (rows : List ℕ) (n : StmtNo) (a : HaltNo) where
   pub row-of : (t : Stmt) → Holds rows n a t → rowAt rows n ≡ rowOf n a t
@@ -279,12 +276,6 @@ pub few-numbers : (rows : List ℕ) (n : StmtNo) (a : HaltNo) (t : Stmt) → Hol
 unfolding unpacked
 few-numbers rows n a t h =
     let end : getD rows (ofStmt n) 0 / 16 % 4096 ≡ ofStmt n + size t = ap (λ (k : StmtNo). ofStmt k) (end-of rows n a t h) in omega arith
-
-pub few-halts : (rows : List ℕ) (n : StmtNo) (a : HaltNo) (t : Stmt) → Holds rows n a t → ofHalt a + haltCount t < 65536
-unfolding unpacked
-few-halts rows n a t h =
-    let past : getD rows (ofStmt n) 0 / 281474976710656 % 65536 ≡ ofHalt a + haltCount t = ap (λ (k : HaltNo). ofHalt k) (past-of rows n a t h) in
-    omega arith
 
 -- what a row's head says of t, and where the rows hold its parts
 pub record IsOne (rows : List ℕ) (n : StmtNo) (a : HaltNo) (t : Stmt) (u : Unary) : Type 0 where
@@ -355,15 +346,7 @@ module _ {rows : List ℕ} {n : StmtNo} (tree : Tree rows n) where
       let some : 1 ≤ size (tree .stmt) = size-pos (tree .stmt) in
       (omega arith, omega arith)
 
-  pub tree-one : {u : Unary} → rowAt rows n .head ≡ One u → Tree rows (further n 1)
-  tree-one e = let k = is-one rows n (tree .first) (tree .stmt) (tree .holds) e in record { first = tree .first; stmt = k .part; holds = k .holds }
-
   pub tree-left : {b : Binary} → rowAt rows n .head ≡ Two b → Tree rows (further n 1)
   tree-left e =
       let k = is-two rows n (tree .first) (tree .stmt) (tree .holds) e in
       record { first = tree .first; stmt = k .left; holds = k .holds-left }
-
-  pub tree-right : {b : Binary} → rowAt rows n .head ≡ Two b → Tree rows (rowAt rows (further n 1) .end)
-  tree-right e =
-      let k = is-two rows n (tree .first) (tree .stmt) (tree .holds) e in
-      record { first = haltsOn (tree .first) (haltCount (k .left)); stmt = k .right; holds = holds-second rows n (tree .first) k }

@@ -17,7 +17,7 @@ use Rattle.sheet.specs.declared.StmtRead.{StmtRead}
 use Rattle.sheet.specs.declared.StmtRead.the-variants.{Next, Refused as Stopped}
 use Rattle.sheet.specs.declared.SheetRead.{SheetRead}
 use Rattle.sheet.specs.declared.SheetRead.the-variants.{Read, Refused}
-use Rattle.sheet.specs.Stmt.{Stmt, size, haltCount, localCount}
+use Rattle.sheet.specs.Stmt.{size, haltCount, localCount}
 use Rattle.sheet.specs.Read.{Around, Outcome, got, refused, further, Sheet, SheetOutcome, sheet, faulty}
 use Rattle.sheet.specs.Rows.{lay, packed}
 

@@ -1,11 +1,11 @@
 -- Which statements are a sheet's: what a sheet's bytes are, and what the limits, scopes and levels leave.
 use mathlib.Core.Path.{_≡_}
-use mathlib.Core.Bool.{Bool, true}
+use mathlib.Core.Bool.{true}
 use mathlib.Core.List.{List, [], _++_}
 use Prim.Native.Nat.{ℕ, _+_, _<_, _≤_}
 use Rattle.number.specs.declared.SignalNo.{SignalNo}
 use Rattle.number.specs.declared.HaltNo.{HaltNo}
-use Rattle.number.specs.Counts.{signalNo, ofSignal, haltNo, ofHalt}
+use Rattle.number.specs.Counts.{signalNo, ofSignal, haltNo}
 use Rattle.number.specs.Number.{numberBytes}
 use Rattle.sheet.specs.declared.Leaf.{Leaf}
 use Rattle.sheet.specs.declared.Leaf.the-variants.{Nothing, Halt, Emit, Exit}

@@ -1,6 +1,6 @@
 -- Reading a sheet: "A sheet is read left to right and the first fault answers: at a statement, COUNT for its number, then its level; then its
 -- kind is read, KIND, COUNT for halts, signals, traps; then the operand is read, SCOPE, EMIT, EXIT. Header COUNT follows both numbers. Then EXTRA".
-use mathlib.Core.Bool.{Bool, true, false, _||_}
+use mathlib.Core.Bool.{Bool, _||_}
 use mathlib.Core.List.{List}
 use Prim.Native.Nat.{ℕ, zero, suc, _+_}
 use lib.Dec.{ltb, leb, eqb}

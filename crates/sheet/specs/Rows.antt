@@ -2,7 +2,7 @@
 -- its halts, from the first to past the last. A row is packed in one word.
 use mathlib.Core.Path.{_≡_}
 use mathlib.Core.List.{List}
-use Prim.Native.Nat.{ℕ, _+_, _*_, _/_, _%_, _<_, _≤_}
+use Prim.Native.Nat.{ℕ, _+_, _*_, _/_, _%_, _<_}
 use lib.Dec.{eqb}
 use lib.ListN.{length, getD, set}
 use Rattle.number.specs.declared.StmtNo.{StmtNo}

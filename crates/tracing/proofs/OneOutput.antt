@@ -4,10 +4,10 @@ use mathlib.Core.Path.{_≡_, refl, sym, ap, ap₂, _∙_}
 use mathlib.Core.List.{List, [], _∷_, _++_}
 use native.Mathlib.Omega.{arith}
 use Rattle.sheet.specs.Read.{sheet}
-use Rattle.krankovel.specs.declared.Answer.{Answer}
-use Rattle.krankovel.specs.declared.Reaction.{Reaction}
-use Rattle.krankovel.specs.Sheets.{Checked, Reacted}
-use Rattle.krankovel.proofs.OneSheetAnswer.{one-checked, one-reacted}
+use Rattle.verdicts.specs.declared.Answer.{Answer}
+use Rattle.verdicts.specs.declared.Reaction.{Reaction}
+use Rattle.sheet_entries.specs.Sheets.{Checked, Reacted}
+use Rattle.sheet_entries.proofs.OneSheetAnswer.{one-checked, one-reacted}
 use Rattle.digits.specs.declared.Value.the-variants.{Is, Bad}
 use Rattle.digits.specs.Bytes.{bytes, malformed}
 use Rattle.tracing.specs.declared.After.{After}

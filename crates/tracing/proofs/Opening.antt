@@ -17,13 +17,14 @@ use Rattle.sheet.specs.Read.{Sheet, SheetOutcome, sheet, faulty}
 use Rattle.builder.specs.Netlist.{sheetNetlist}
 use Rattle.compiler.specs.Check.{Checks, accepted}
 use Rattle.compiler.proofs.Passing.{judged-read}
-use Rattle.krankovel.specs.declared.Answer.{Answer}
-use Rattle.krankovel.specs.declared.Listing.{Listing}
-use Rattle.krankovel.specs.Answers.{verdict, answerOf, withSignals}
-use Rattle.krankovel.specs.Sheets.{sheetVerdict, sheetAccepted, Checked}
-use Rattle.krankovel.specs.Netlists.{netVerdict}
-use Rattle.krankovel.specs.Files.{sheetNet, writeVerdict}
-use Rattle.krankovel.specs.Cells.{wordsOf, listingOf, Handed, Listed}
+use Rattle.verdicts.specs.declared.Answer.{Answer}
+use Rattle.verdicts.specs.declared.Listing.{Listing}
+use Rattle.verdicts.specs.Answers.{verdict, answerOf, withSignals}
+use Rattle.sheet_entries.specs.Sheets.{sheetVerdict, sheetAccepted, Checked}
+use Rattle.netlist_entries.specs.Netlists.{netVerdict}
+use Rattle.netlist_entries.specs.Files.{writeVerdict}
+use Rattle.netlist_entries.specs.Cells.{wordsOf, listingOf, Handed}
+use Rattle.compile_entries.specs.Compile.{sheetNet, Listed}
 use Rattle.tracing.specs.Steps.{Headed}
 
 -- no refusal has the number 0

@@ -13,10 +13,10 @@ use Rattle.writer.specs.Write.{Writes}
 use Rattle.writer.proofs.Laying.{nothing-writes}
 use Rattle.bits.specs.Bits.{has}
 use Rattle.rules.specs.States.{atRest}
-use Rattle.krankovel.specs.declared.Reaction.{Reaction}
-use Rattle.krankovel.specs.declared.Listing.{Listing}
-use Rattle.krankovel.specs.Sheets.{Reacted}
-use Rattle.krankovel.specs.Cells.{Listed}
+use Rattle.verdicts.specs.declared.Reaction.{Reaction}
+use Rattle.verdicts.specs.declared.Listing.{Listing}
+use Rattle.sheet_entries.specs.Sheets.{Reacted}
+use Rattle.compile_entries.specs.Compile.{Listed}
 use Rattle.digits.specs.declared.Value.the-variants.{Is, Bad}
 use Rattle.digits.specs.declared.Hex.{Hex}
 use Rattle.digits.specs.Digits.{valueOf}

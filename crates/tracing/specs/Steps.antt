@@ -9,9 +9,9 @@ use Rattle.bits.specs.Bits.{has}
 use Rattle.sheet.specs.Read.{Sheet, sheet, readSheet}
 use Rattle.rules.specs.States.{atRest}
 use Rattle.writer.specs.Write.{Writes}
-use Rattle.krankovel.specs.declared.Answer.{Answer}
-use Rattle.krankovel.specs.declared.Reaction.{Reaction}
-use Rattle.krankovel.specs.Sheets.{Checked, Reacted}
+use Rattle.verdicts.specs.declared.Answer.{Answer}
+use Rattle.verdicts.specs.declared.Reaction.{Reaction}
+use Rattle.sheet_entries.specs.Sheets.{Checked, Reacted}
 use Rattle.digits.specs.declared.Value.{Value}
 use Rattle.digits.specs.declared.Value.the-variants.{Is, Bad}
 use Rattle.digits.specs.Digits.{valueOf}

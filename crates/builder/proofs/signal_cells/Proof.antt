@@ -4,8 +4,8 @@ use mathlib.Core.Path.{_≡_, refl, sym, _∙_}
 use native.Mathlib.Omega.{arith}
 use borrow.Author.Needs.{needs}
 use lib.ListN.{length}
-use Rattle.builder.specs.Contract.{nets}
-use Rattle.builder.proofs.Laws.{nets-at}
+use Rattle.parts.specs.Contract.{nets}
+use Rattle.parts.proofs.Laws.{nets-at}
 use Rattle.builder.proofs.Ends.{Signals, signals-step, signals-length, signals-end}
 use Rattle.builder.proofs.signal_cells.Statement.{statement}
 use Rattle.builder.proofs.signal_cells.Tie as tie

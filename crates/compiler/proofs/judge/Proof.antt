@@ -1,5 +1,4 @@
 -- The column is filled, asked for INSTANT and TWICE, and then the netlist is built.
-use mathlib.Core.Path.{_∙_}
 use native.Mathlib.Omega.{arith}
 use borrow.Author.Needs.{needs}
 use Rattle.compiler.proofs.Judging.{stands, some-sheet, judges-instant, judges-twice, judges-room}

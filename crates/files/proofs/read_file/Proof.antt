@@ -47,8 +47,8 @@ returns-2 c =
     let outputs = sym (at-read-number2 .read-number2 .ensures) ∙ c .fault-of2 .ensures in
     file-stop (simp (inputs, outputs))
 
-many-signals-requires : tie.Need-many-signals-requires
-many-signals-requires c κs = search needs
+header-full-requires : tie.Need-header-full-requires
+header-full-requires c κs = search needs
 
 refused-requires : tie.Need-refused-requires
 refused-requires c κs = search needs
@@ -57,18 +57,18 @@ returns-3 : tie.Need-returns-3
 unfolding readFile afterInputs afterOutputs pick
 returns-3 c =
     let at-if1 = c .before in
-    let at-many-signals = at-if1 .before in
-    let at-b = at-many-signals .before .before in
+    let at-header-full = at-if1 .before in
+    let at-b = at-header-full .before .before in
     let at-read-number2 = at-b .before .before in
     let at-a = at-read-number2 .before .before in
     let at-read-number = at-a .before .before in
     let inputs = sym (at-read-number .read-number .ensures) ∙ at-a .a .given .1 in
     let outputs = sym (at-read-number2 .read-number2 .ensures) ∙ at-b .b .given .1 in
-    let many = sym (at-many-signals .many-signals .ensures) ∙ at-if1 .if1 .taken in
+    let many = sym (at-header-full .header-full .ensures) ∙ at-if1 .if1 .taken in
     rw (c .refused .ensures) (file-stop (simp (inputs, outputs, many)))
 
 read-counted-requires : tie.Need-read-counted-requires
-read-counted-requires c κs = few-signals _ _ (sym (c .before .before .many-signals .ensures) ∙ c .before .if1 .left)
+read-counted-requires c κs = few-signals _ _ (sym (c .before .before .header-full .ensures) ∙ c .before .if1 .left)
 
 same-length : tie.Need-same-length
 same-length c = search needs
@@ -78,14 +78,14 @@ unfolding readFile afterInputs afterOutputs pick
 returns-4 c =
     let at-read-counted = c .before .before in
     let at-if1 = at-read-counted .before .before in
-    let at-many-signals = at-if1 .before in
-    let at-b = at-many-signals .before .before in
+    let at-header-full = at-if1 .before in
+    let at-b = at-header-full .before .before in
     let at-read-number2 = at-b .before .before in
     let at-a = at-read-number2 .before .before in
     let at-read-number = at-a .before .before in
     let inputs = sym (at-read-number .read-number .ensures) ∙ at-a .a .given .1 in
     let outputs = sym (at-read-number2 .read-number2 .ensures) ∙ at-b .b .given .1 in
-    let few = sym (at-many-signals .many-signals .ensures) ∙ at-if1 .if1 .left in
+    let few = sym (at-header-full .header-full .ensures) ∙ at-if1 .if1 .left in
     simp (inputs, outputs, few) (at-read-counted .read-counted .ensures)
 
 pub read-file-spec : {M : Type 1} → statement M
@@ -102,7 +102,7 @@ read-file-spec =
     enum-told-2
     fault-of-requires-2
     returns-2
-    many-signals-requires
+    header-full-requires
     refused-requires
     returns-3
     read-counted-requires

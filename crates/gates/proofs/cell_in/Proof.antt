@@ -1,4 +1,4 @@
--- `cell_in` meets its contract: its arms are the tests of `cellIn`, in the same order.
+-- `cell_in` meets its contract: its arms are the tests of `cellIn`, in the same order, after one for low's own code.
 use borrow.Author.Tests.{ne-eqb}
 use borrow.Author.Needs.{needs}
 use Rattle.number.specs.Number.{pick}
@@ -27,11 +27,11 @@ returns c = simp (c .match .keys1)
 
 returns-2 : tie.Need-returns-2
 unfolding cellIn pick
-returns-2 c = simp (c .before .match .keys2, c .new3 .ensures)
+returns-2 c = simp (c .match .keys2)
 
 returns-3 : tie.Need-returns-3
 unfolding cellIn pick
-returns-3 c = simp (c .match .keys3, c .before .before .new .ensures, c .before .new2 .ensures)
+returns-3 c = simp (c .before .match .keys3, c .new3 .ensures)
 
 returns-4 : tie.Need-returns-4
 unfolding cellIn pick
@@ -43,11 +43,15 @@ returns-5 c = simp (c .match .keys5, c .before .before .new .ensures, c .before 
 
 returns-6 : tie.Need-returns-6
 unfolding cellIn pick
-returns-6 c = simp (c .match .keys6, c .before .before .new .ensures)
+returns-6 c = simp (c .match .keys6, c .before .before .new .ensures, c .before .new2 .ensures)
 
 returns-7 : tie.Need-returns-7
 unfolding cellIn pick
-returns-7 c =
+returns-7 c = simp (c .match .keys7, c .before .before .new .ensures)
+
+returns-8 : tie.Need-returns-8
+unfolding cellIn pick
+returns-8 c =
     let not = c .match .rest in
     simp (
       ne-eqb _ _ (not .0 .0 .0 .0 .0 .1),
@@ -73,4 +77,5 @@ cell-in-spec =
     returns-4
     returns-5
     returns-6
-    returns-7)
+    returns-7
+    returns-8)

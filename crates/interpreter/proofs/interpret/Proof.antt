@@ -1,7 +1,7 @@
 -- The compiler's fault answers; otherwise the sheet reacts.
-use borrow.Author.Needs.{needs}
 use Rattle.interpreter.specs.Interpret.{refused}
 use Rattle.interpreter.proofs.Interpreting.{was-refused, was-compiled, interprets}
+use borrow.Author.Needs.{needs}
 use Rattle.interpreter.proofs.interpret.Statement.{statement}
 use Rattle.interpreter.proofs.interpret.Tie as tie
 
@@ -17,7 +17,7 @@ enum-known-c c = search needs
 react-requires : tie.Need-react-requires
 react-requires c κs =
     let at-c = c .before .before .before in
-    let at-compile = at-c .before .before .before .before .before .before .before .before .before .before .before .before .before .before in
+    let at-compile = at-c .before .before .before .before .before .before .before .before in
     let a = was-compiled (at-compile .compile .ensures) (at-c .c .given .1) in
     record { read = a .read; is = a .is }
 
@@ -30,6 +30,11 @@ same-length-2 c = search needs
 same-length-3 : tie.Need-same-length-3
 same-length-3 c = search needs
 
+returns : tie.Need-returns
+returns c =
+    let at-compile = c .before .before .before .before .before .before .before .before .before in
+    refused (was-refused (at-compile .compile .ensures) (c .before .f .given .1))
+
 same-length-4 : tie.Need-same-length-4
 same-length-4 c = search needs
 
@@ -39,36 +44,11 @@ same-length-5 c = search needs
 same-length-6 : tie.Need-same-length-6
 same-length-6 c = search needs
 
-returns : tie.Need-returns
-returns c =
-    let at-f = c .before in
-    let at-compile = at-f .before .before .before .before .before .before .before .before .before .before .before .before .before .before in
-    refused (was-refused (at-compile .compile .ensures) (at-f .f .given .1))
-
-same-length-7 : tie.Need-same-length-7
-same-length-7 c = search needs
-
-same-length-8 : tie.Need-same-length-8
-same-length-8 c = search needs
-
-same-length-9 : tie.Need-same-length-9
-same-length-9 c = search needs
-
-same-length-10 : tie.Need-same-length-10
-same-length-10 c = search needs
-
-same-length-11 : tie.Need-same-length-11
-same-length-11 c = search needs
-
-same-length-12 : tie.Need-same-length-12
-same-length-12 c = search needs
-
 returns-2 : tie.Need-returns-2
 returns-2 c =
     let at-c = c .before .before .before .before in
-    let at-compile = at-c .before .before .before .before .before .before .before .before .before .before .before .before .before .before in
-    let a = was-compiled (at-compile .compile .ensures) (at-c .c .given .1) in
-    interprets a (c .react .ensures)
+    let at-compile = at-c .before .before .before .before .before .before .before .before in
+    interprets (was-compiled (at-compile .compile .ensures) (at-c .c .given .1)) (c .react .ensures)
 
 pub interpret-spec : {M : Type 1} → statement M
 interpret-spec =
@@ -81,14 +61,8 @@ interpret-spec =
     same-length
     same-length-2
     same-length-3
+    returns
     same-length-4
     same-length-5
     same-length-6
-    returns
-    same-length-7
-    same-length-8
-    same-length-9
-    same-length-10
-    same-length-11
-    same-length-12
     returns-2)

@@ -1,8 +1,8 @@
--- EVENT is asked by the sheet's own inputs, STATE by its rows, and then the rounds settle.
+-- EVENT is asked by the sheet's own inputs, STATE by its rows, and then a run over the one event is the reaction.
 use borrow.Author.Tests.{not-true, not-false}
-use borrow.Author.Needs.{needs}
 use Rattle.interpreter.proofs.Interpreting.{inputs-few, whole, refuses-event, refuses-state, reacts-here}
-use Rattle.interpreter.proofs.Ready.{run-rows, settling}
+use Rattle.interpreter.proofs.Ready.{runs-once}
+use borrow.Author.Needs.{needs}
 use Rattle.interpreter.proofs.react.Statement.{statement}
 use Rattle.interpreter.proofs.react.Tie as tie
 
@@ -38,37 +38,37 @@ returns-2 c =
     rw (c .refused2 .ensures)
     (refuses-state (at-event-ok .event-ok .ensures) (not-false _ (at-if1 .if1 .left)) (at-fits2 .fits2 .ensures) (not-true _ (c .before .if2 .taken)))
 
-new-requires : tie.Need-new-requires
-new-requires c κs = search needs
+slice-aggregate-moments : tie.Need-slice-aggregate-moments
+slice-aggregate-moments c = search needs
 
-tested-requires : tie.Need-tested-requires
-tested-requires c κs =
-    let start = c .before .before .before .before .before .before .before .before in
-    rw (c .new .ensures) (run-rows (start .pre .is .accepts) (start .pre .is .holds))
+slice-aggregate-moments-2 : tie.Need-slice-aggregate-moments-2
+slice-aggregate-moments-2 c = search needs
 
-agreed-requires : tie.Need-agreed-requires
-agreed-requires c κs =
-    let at-if2 = c .before .before in
+slice-aggregate-moments-3 : tie.Need-slice-aggregate-moments-3
+slice-aggregate-moments-3 c = search needs
+
+moments-requires : tie.Need-moments-requires
+moments-requires c κs =
+    let at-if2 = c .before .before .before in
     let at-fits2 = at-if2 .before in
     let at-if1 = at-fits2 .before in
     let at-event-ok = at-if1 .before in
     let start = at-event-ok .before .before .before .before in
     let own = not-false _ (at-if1 .if1 .left) in
-    let settles = settling (start .pre .is) (at-event-ok .event-ok .ensures) own (at-fits2 .fits2 .ensures) (not-false _ (at-if2 .if2 .left)) in
-    (settles, rw (c .before .new .ensures) at (c .tested .ensures))
+    runs-once (start .pre .is) (at-event-ok .event-ok .ensures) own (at-fits2 .fits2 .ensures) (not-false _ (at-if2 .if2 .left))
 
-next-state-requires : tie.Need-next-state-requires
-next-state-requires c κs = search needs
+array-read-t24 : tie.Need-array-read-t24
+array-read-t24 c = search needs
 
 returns-3 : tie.Need-returns-3
 returns-3 c =
-    let at-if2 = c .before .before .before .before in
+    let at-moments = c .before .before in
+    let at-if2 = at-moments .before .before .before .before in
     let at-fits2 = at-if2 .before in
     let at-if1 = at-fits2 .before in
     let at-event-ok = at-if1 .before in
     let own = not-false _ (at-if1 .if1 .left) in
-    let fit = not-false _ (at-if2 .if2 .left) in
-    reacts-here (at-event-ok .event-ok .ensures) own (at-fits2 .fits2 .ensures) fit (c .before .agreed .ensures) (c .next-state .ensures)
+    reacts-here (at-event-ok .event-ok .ensures) own (at-fits2 .fits2 .ensures) (not-false _ (at-if2 .if2 .left)) (at-moments .moments .ensures)
 
 pub react-spec : {M : Type 1} → statement M
 react-spec =
@@ -81,8 +81,9 @@ react-spec =
     fits-requires
     refused-requires-2
     returns-2
-    new-requires
-    tested-requires
-    agreed-requires
-    next-state-requires
+    slice-aggregate-moments
+    slice-aggregate-moments-2
+    slice-aggregate-moments-3
+    moments-requires
+    array-read-t24
     returns-3)

@@ -1,6 +1,6 @@
 -- The words were refused; or they are searched for an order.
-use Rattle.netlists.proofs.Checking.{check-stop, cells-searchable, cells-checked}
 use mathlib.Core.Path.{sym, _∙_}
+use Rattle.netlists.proofs.Checking.{check-stop, cells-orderable, cells-checked}
 use borrow.Author.Needs.{needs}
 use Rattle.netlists.proofs.check_cells.Statement.{statement}
 use Rattle.netlists.proofs.check_cells.Tie as tie
@@ -16,34 +16,29 @@ enum-known-h c = search needs
 
 order-cells-requires : tie.Need-order-cells-requires
 order-cells-requires c κs =
-    let at-h = c .before .before .before .before in
+    let at-h = c .before .before in
     let at-judge-cells = at-h .before .before in
-    let start = at-judge-cells .before .before .before .before .before in
+    let start = at-judge-cells .before .before .before in
     let a = start .args in
-    let s = cells-searchable (a .i) (a .o) (a .words .now) (at-judge-cells .judge-cells .ensures) (at-h .h .given .1) (start .pre) in
-    (s .closed, s .lent, s .long)
+    cells-orderable (a .i) (a .o) (a .words .now) (at-judge-cells .judge-cells .ensures) (at-h .h .given .1) (start .pre)
 
 after-order-requires : tie.Need-after-order-requires
 after-order-requires c κs = search needs
 
 returns : tie.Need-returns
-returns c = check-stop (sym (c .before .before .before .judge-cells .ensures) ∙ c .before .f .given .1)
+returns c =
+    let at-judge-cells = c .before .before .before in
+    check-stop (sym (at-judge-cells .judge-cells .ensures) ∙ c .before .f .given .1)
 
 same-length : tie.Need-same-length
 same-length c = search needs
 
-same-length-2 : tie.Need-same-length-2
-same-length-2 c = search needs
-
-same-length-3 : tie.Need-same-length-3
-same-length-3 c = search needs
-
 returns-2 : tie.Need-returns-2
 returns-2 c =
-    let at-order-cells = c .before .before .before .before .before .before .before in
-    let at-h = at-order-cells .before .before .before .before .before in
+    let at-order-cells = c .before .before .before in
+    let at-h = at-order-cells .before .before .before in
     let at-judge-cells = at-h .before .before in
-    let start = at-judge-cells .before .before .before .before .before in
+    let start = at-judge-cells .before .before .before in
     let a = start .args in
     let judged = at-judge-cells .judge-cells .ensures in
     let searched = at-order-cells .order-cells in
@@ -61,6 +56,4 @@ check-cells-spec =
     after-order-requires
     returns
     same-length
-    same-length-2
-    same-length-3
     returns-2)

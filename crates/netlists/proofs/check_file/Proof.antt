@@ -1,5 +1,5 @@
 -- The file was refused; or its cells are searched for an order.
-use Rattle.netlists.proofs.Checking.{file-stopped, file-inside, file-searchable, file-checked}
+use Rattle.netlists.proofs.Checking.{file-stopped, file-inside, file-orderable, file-checked}
 use borrow.Author.Needs.{needs}
 use Rattle.netlists.proofs.check_file.Statement.{statement}
 use Rattle.netlists.proofs.check_file.Tie as tie
@@ -18,14 +18,14 @@ cast-m c = search needs
 
 order-first-requires : tie.Need-order-first-requires
 order-first-requires c κs =
-    let at-h = c .before .before .before .before .before .before in
+    let at-h = c .before .before .before .before in
     let at-read-file = at-h .before .before .before .before in
-    let start = at-read-file .before .before .before .before .before .before .before in
+    let start = at-read-file .before .before .before .before .before in
     let pre = start .pre in
     let s = start .args .s .now in
     let read = at-read-file .read-file .ensures in
     let header = at-h .h .given .1 in
-    (file-inside s read header (pre .0), file-searchable s read header (pre .0) (pre .1))
+    (file-inside s read header (pre .0), file-orderable s read header (pre .0) (pre .1))
 
 after-order-requires : tie.Need-after-order-requires
 after-order-requires c κs = search needs
@@ -35,10 +35,9 @@ same-length c = search needs
 
 returns : tie.Need-returns
 returns c =
-    let at-f = c .before in
-    let at-read-file = at-f .before .before .before .before in
-    let start = at-read-file .before .before .before .before .before .before .before in
-    file-stopped (start .args .s .now) (at-read-file .read-file .ensures) (at-f .f .given .1)
+    let at-read-file = c .before .before .before .before .before in
+    let start = at-read-file .before .before .before .before .before in
+    file-stopped (start .args .s .now) (at-read-file .read-file .ensures) (c .before .f .given .1)
 
 same-length-2 : tie.Need-same-length-2
 same-length-2 c = search needs
@@ -46,18 +45,12 @@ same-length-2 c = search needs
 same-length-3 : tie.Need-same-length-3
 same-length-3 c = search needs
 
-same-length-4 : tie.Need-same-length-4
-same-length-4 c = search needs
-
-same-length-5 : tie.Need-same-length-5
-same-length-5 c = search needs
-
 returns-2 : tie.Need-returns-2
 returns-2 c =
-    let at-order-first = c .before .before .before .before .before .before .before in
-    let at-h = at-order-first .before .before .before .before .before .before .before in
+    let at-order-first = c .before .before .before in
+    let at-h = at-order-first .before .before .before .before .before in
     let at-read-file = at-h .before .before .before .before in
-    let start = at-read-file .before .before .before .before .before .before .before in
+    let start = at-read-file .before .before .before .before .before in
     let s = start .args .s .now in
     let read = at-read-file .read-file .ensures in
     let searched = at-order-first .order-first in
@@ -77,6 +70,4 @@ check-file-spec =
     returns
     same-length-2
     same-length-3
-    same-length-4
-    same-length-5
     returns-2)

@@ -8,8 +8,8 @@ use borrow.Author.Needs.{needs}
 use Rattle.netlists.proofs.judge_cells.Statement.{statement}
 use Rattle.netlists.proofs.judge_cells.Tie as tie
 
-many-signals-requires : tie.Need-many-signals-requires
-many-signals-requires c κs = search needs
+header-full-requires : tie.Need-header-full-requires
+header-full-requires c κs = search needs
 
 refused-requires : tie.Need-refused-requires
 refused-requires c κs = search needs
@@ -17,14 +17,14 @@ refused-requires c κs = search needs
 returns : tie.Need-returns
 returns c =
     let at-if1 = c .before in
-    let at-many-signals = at-if1 .before in
-    let start = at-many-signals .before .before in
+    let at-header-full = at-if1 .before in
+    let start = at-header-full .before .before in
     let a = start .args in
-    let many = sym (at-many-signals .many-signals .ensures) ∙ at-if1 .if1 .taken in
+    let many = sym (at-header-full .header-full .ensures) ∙ at-if1 .if1 .taken in
     c .refused .ensures ∙ sym (cells-signals (a .i) (a .o) (a .words .now) many)
 
 judge-count-requires : tie.Need-judge-count-requires
-judge-count-requires c κs = few-signals _ _ (sym (c .before .many-signals .ensures) ∙ c .if1 .left)
+judge-count-requires c κs = few-signals _ _ (sym (c .before .header-full .ensures) ∙ c .if1 .left)
 
 enum-known-refusal : tie.Need-enum-known-refusal
 enum-known-refusal c = search needs
@@ -59,10 +59,10 @@ returns-2 c =
     let at-refusal = c .before .before in
     let at-judge-count = at-refusal .before .before in
     let at-if1 = at-judge-count .before in
-    let at-many-signals = at-if1 .before in
-    let start = at-many-signals .before .before in
+    let at-header-full = at-if1 .before in
+    let start = at-header-full .before .before in
     let a = start .args in
-    let few = sym (at-many-signals .many-signals .ensures) ∙ at-if1 .if1 .left in
+    let few = sym (at-header-full .header-full .ensures) ∙ at-if1 .if1 .left in
     let count = sym (at-judge-count .judge-count .ensures) ∙ at-refusal .refusal .given .1 in
     c .refused2 .ensures ∙ sym (cells-count (a .i) (a .o) (a .words .now) few count)
 
@@ -73,10 +73,10 @@ returns-3 c =
     let at-enum-told = at-judge-words .before in
     let at-judge-count = at-enum-told .before .before in
     let at-if1 = at-judge-count .before in
-    let at-many-signals = at-if1 .before in
-    let start = at-many-signals .before .before in
+    let at-header-full = at-if1 .before in
+    let start = at-header-full .before .before in
     let a = start .args in
-    let few = sym (at-many-signals .many-signals .ensures) ∙ at-if1 .if1 .left in
+    let few = sym (at-header-full .header-full .ensures) ∙ at-if1 .if1 .left in
     let count = sym (at-judge-count .judge-count .ensures) ∙ at-enum-told .enum-told .given .1 in
     let wrong = sym (at-judge-words .judge-words .ensures) ∙ at-refusal2 .refusal2 .given .1 in
     c .refused3 .ensures ∙ sym (cells-wrong (a .i) (a .o) (a .words .now) few count wrong)
@@ -87,10 +87,10 @@ returns-4 c =
     let at-enum-told = at-judge-words .before in
     let at-judge-count = at-enum-told .before .before in
     let at-if1 = at-judge-count .before in
-    let at-many-signals = at-if1 .before in
-    let start = at-many-signals .before .before in
+    let at-header-full = at-if1 .before in
+    let start = at-header-full .before .before in
     let a = start .args in
-    let few = sym (at-many-signals .many-signals .ensures) ∙ at-if1 .if1 .left in
+    let few = sym (at-header-full .header-full .ensures) ∙ at-if1 .if1 .left in
     let count = sym (at-judge-count .judge-count .ensures) ∙ at-enum-told .enum-told .given .1 in
     let right = sym (at-judge-words .judge-words .ensures) ∙ c .enum-told2 .given .1 in
     sym (cells-netlist (a .i) (a .o) (a .words .now) few count right)
@@ -99,7 +99,7 @@ pub judge-cells-spec : {M : Type 1} → statement M
 judge-cells-spec =
     tie.close
     (tie.spec
-    many-signals-requires
+    header-full-requires
     refused-requires
     returns
     judge-count-requires

@@ -7,7 +7,7 @@ use Rattle.netlists.proofs.order_first.Tie as tie
 
 slice-aggregate-order-cells : tie.Need-slice-aggregate-order-cells
 slice-aggregate-order-cells c =
-    let start = c .before .before .before .before .before in
+    let start = c .before .before .before in
     sym (length-take-le _ _ (start .pre .0))
 
 order-cells-requires : tie.Need-order-cells-requires
@@ -16,22 +16,9 @@ order-cells-requires c κs = search needs
 same-length : tie.Need-same-length
 same-length c = search needs
 
-same-length-2 : tie.Need-same-length-2
-same-length-2 c = search needs
-
-same-length-3 : tie.Need-same-length-3
-same-length-3 c = search needs
-
 returns : tie.Need-returns
 returns c = search needs
 
 pub order-first-spec : {M : Type 1} → statement M
 order-first-spec =
-    tie.close
-    (tie.spec
-    slice-aggregate-order-cells
-    order-cells-requires
-    same-length
-    same-length-2
-    same-length-3
-    returns)
+    tie.close (tie.spec slice-aggregate-order-cells order-cells-requires same-length returns)

@@ -1,16 +1,22 @@
--- `order_cells` meets its contract: either every cell is placed, or some cell is on a cycle and the lowest such cell is looked for.
-use mathlib.Core.Path.{_∙_}
-use borrow.Author.Needs.{needs}
-use Rattle.order.proofs.Columns.{still-lent}
+-- Either every cell is placed, or some cell is on a cycle and the lowest such cell is looked for.
+use mathlib.Core.Path.{refl}
+use Rattle.order.proofs.Columns.{lent, blank}
 use Rattle.order.proofs.Unique.{answers-found, answers-cycle}
+use borrow.Author.Needs.{needs}
 use Rattle.order.proofs.order_cells.Statement.{statement}
 use Rattle.order.proofs.order_cells.Tie as tie
 
-clear-requires : tie.Need-clear-requires
-clear-requires c κs = search needs
+slice-aggregate-place-all : tie.Need-slice-aggregate-place-all
+slice-aggregate-place-all c = search needs
+
+slice-aggregate-place-all-2 : tie.Need-slice-aggregate-place-all-2
+slice-aggregate-place-all-2 c = search needs
 
 place-all-requires : tie.Need-place-all-requires
-place-all-requires c κs = search needs
+place-all-requires c κs =
+    let start = c .before .before .before .before .before in
+    let pre = start .pre in
+    (pre .closed, lent pre refl refl, pre .long, blank 1024)
 
 enum-told : tie.Need-enum-told
 enum-told c = search needs
@@ -18,57 +24,50 @@ enum-told c = search needs
 enum-told-2 : tie.Need-enum-told-2
 enum-told-2 c = search needs
 
+slice-aggregate-lowest : tie.Need-slice-aggregate-lowest
+slice-aggregate-lowest c = search needs
+
+slice-aggregate-lowest-2 : tie.Need-slice-aggregate-lowest-2
+slice-aggregate-lowest-2 c = search needs
+
 lowest-requires : tie.Need-lowest-requires
 lowest-requires c κs =
-    let start = c .before .before .before .before .before .before .before .before .before .before .before .before .before .before .before .before .before .before .before .before .before .before in
-    let place-all = c .before .before .before .before .before .before .before .before .before .before .place-all in
-    let clear = c .before .before .before .before .before .before .before .before .before .before .before .before .before .before .before .before .clear in
+    let at-enum-told2 = c .before .before in
+    let at-place-all = at-enum-told2 .before .before .before .before .before .before in
+    let start = at-place-all .before .before .before .before .before .before in
     let pre = start .pre in
-    let kept = place-all .kept .1 in
-    (pre .0, still-lent (pre .1) (kept .0 ∙ clear .kept .0) (kept .1 .0), rw (c .before .before .enum-told2 .given .1) at (place-all .ensures))
+    let kept = at-place-all .place-all .kept .1 in
+    (pre .closed, lent pre (kept .0) (kept .1 .0), rw (at-enum-told2 .enum-told2 .given .1) at (at-place-all .place-all .ensures))
 
 same-length : tie.Need-same-length
 same-length c = search needs
 
+returns : tie.Need-returns
+returns c =
+    let at-place-all = c .before .before .before .before .before .before in
+    answers-found (rw (c .enum-told .given .1) at (at-place-all .place-all .ensures))
+
 same-length-2 : tie.Need-same-length-2
 same-length-2 c = search needs
 
-same-length-3 : tie.Need-same-length-3
-same-length-3 c = search needs
-
-returns : tie.Need-returns
-returns c =
-    let place-all = c .before .before .before .before .before .before .before .before .place-all in
-    answers-found (rw (c .enum-told .given .1) at (place-all .ensures))
-
-same-length-4 : tie.Need-same-length-4
-same-length-4 c = search needs
-
-same-length-5 : tie.Need-same-length-5
-same-length-5 c = search needs
-
-same-length-6 : tie.Need-same-length-6
-same-length-6 c = search needs
-
 returns-2 : tie.Need-returns-2
 returns-2 c =
-    let lowest = c .before .before .before .before .lowest in
-    answers-cycle (lowest .ensures)
+    let at-lowest = c .before .before in
+    answers-cycle (at-lowest .lowest .ensures)
 
 pub order-cells-spec : {M : Type 1} → statement M
 order-cells-spec =
     tie.close
     (tie.spec
-    clear-requires
+    slice-aggregate-place-all
+    slice-aggregate-place-all-2
     place-all-requires
     enum-told
     enum-told-2
+    slice-aggregate-lowest
+    slice-aggregate-lowest-2
     lowest-requires
     same-length
-    same-length-2
-    same-length-3
     returns
-    same-length-4
-    same-length-5
-    same-length-6
+    same-length-2
     returns-2)

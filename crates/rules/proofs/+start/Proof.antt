@@ -8,7 +8,7 @@ use Rattle.sheet.specs.declared.Head.the-variants.{One, Two}
 use Rattle.sheet.specs.declared.Binary.the-variants.{Sequence, Present, Parallel}
 use Rattle.sheet.specs.Rows.{rowAt}
 use Rattle.rules.proofs.Walks.{run-within, run-number, run-leaf, run-one, run-left, run-right, right-further}
-use Rattle.rules.proofs.Walks.{start-leaf, start-one, start-sequence, start-stopped, start-then, start-else, start-parallel}
+use Rattle.rules.proofs.Walks.{start-leaf, start-part, start-trap, start-sequence, start-stopped, start-then, start-else, start-parallel}
 use Prim.Native.Nat.{ℕ, _<_, _-_}
 use borrow.Fn.Kinds.{In}
 use borrow.Fn.PlainCycle.{Measures, is, falls, and}
@@ -17,7 +17,8 @@ use Rattle.rules.proofs.start.Kinds as start-kinds
 use Rattle.rules.proofs.+start.Lts-start as start-lts
 use Rattle.bits.proofs.member.Reads as member-reads
 use Rattle.number.proofs.SignalNo.number.Reads as number-reads
-use Rattle.rules.proofs.passed.Reads as passed-reads
+use Rattle.rules.proofs.is_trap.Reads as is-trap-reads
+use Rattle.rules.proofs.trapped.Reads as trapped-reads
 use Rattle.rules.proofs.beside.Reads as beside-reads
 use Rattle.sheet.proofs.first_part.Reads as first-part-reads
 use Rattle.rules.proofs.followed.Reads as followed-reads
@@ -44,10 +45,12 @@ calls t = (
   leaf-reads.Learnt,
   first-part-reads.Asked,
   first-part-reads.Learnt,
+  is-trap-reads.Asked,
+  is-trap-reads.Learnt,
   start-below t,
   start.Post,
-  passed-reads.Asked,
-  passed-reads.Learnt,
+  trapped-reads.Asked,
+  trapped-reads.Learnt,
   second-part-reads.Asked,
   second-part-reads.Learnt,
   followed-reads.Asked,
@@ -103,14 +106,34 @@ enum-known-head-2 t c = search needs
 first-part-requires : (t : ℕ) → start-lts.Need-first-part-requires (calls t) (start-at t) start.Post
 first-part-requires t c κs = run-number (c .before .before .before .before .before .pre .1)
 
+is-trap-requires : (t : ℕ) → start-lts.Need-is-trap-requires (calls t) (start-at t) start.Post
+is-trap-requires t c κs = search needs
+
 start-requires : (t : ℕ) → start-lts.Need-start-requires (calls t) (start-at t) start.Post
 start-requires t c κs =
-    let entry = c .before .before .before .before .before .before in
+    let at-first-part = c .before .before in
+    let entry = at-first-part .before .before .before .before .before .before in
     let here = run-within (entry .pre .1) in
-    rw (c .first-part .ensures) (omega (arith, entry .pre .0, here), run-one (entry .pre .1) (one-head t (c .before)))
+    rw (at-first-part .first-part .ensures) (omega (arith, entry .pre .0, here), run-one (entry .pre .1) (one-head t (at-first-part .before)))
 
-passed-requires : (t : ℕ) → start-lts.Need-passed-requires (calls t) (start-at t) start.Post
-passed-requires t c κs = search needs
+trapped-requires : (t : ℕ) → start-lts.Need-trapped-requires (calls t) (start-at t) start.Post
+trapped-requires t c κs = search needs
+
+returns : (t : ℕ) → start-lts.Need-returns (calls t) (start-at t) start.Post
+returns t c =
+    let at-start = c .before in
+    let at-is-trap = at-start .before .before in
+    let at-first-part = at-is-trap .before in
+    let part = rw (at-first-part .first-part .ensures) at (at-start .start .ensures) in
+    let trap = sym (at-is-trap .is-trap .ensures) ∙ at-start .before .if1 .taken in
+    start-trap _ _ _ (one-head t (at-first-part .before)) part trap (c .trapped .ensures)
+
+start-requires-2 : (t : ℕ) → start-lts.Need-start-requires-2 (calls t) (start-at t) start.Post
+start-requires-2 t c κs =
+    let at-first-part = c .before .before in
+    let entry = at-first-part .before .before .before .before .before .before in
+    let here = run-within (entry .pre .1) in
+    rw (at-first-part .first-part .ensures) (omega (arith, entry .pre .0, here), run-one (entry .pre .1) (one-head t (at-first-part .before)))
 
 enum-known-head-3 : (t : ℕ) → start-lts.Need-enum-known-head-3 (calls t) (start-at t) start.Post
 enum-known-head-3 t c = search needs
@@ -121,16 +144,16 @@ enum-told t c = search needs
 first-part-requires-2 : (t : ℕ) → start-lts.Need-first-part-requires-2 (calls t) (start-at t) start.Post
 first-part-requires-2 t c κs = run-number (c .before .before .before .before .before .before .before .pre .1)
 
-start-requires-2 : (t : ℕ) → start-lts.Need-start-requires-2 (calls t) (start-at t) start.Post
-start-requires-2 t c κs =
+start-requires-3 : (t : ℕ) → start-lts.Need-start-requires-3 (calls t) (start-at t) start.Post
+start-requires-3 t c κs =
     let entry = c .before .before .before .before .before .before .before .before in
     let here = run-within (entry .pre .1) in
     rw (c .first-part2 .ensures) (omega (arith, entry .pre .0, here), run-left (entry .pre .1) (sequence-head t (c .before)))
 
-returns : (t : ℕ) → start-lts.Need-returns (calls t) (start-at t) start.Post
-returns t c =
-    let left = rw (c .before .before .before .first-part2 .ensures) at (c .before .before .start2 .ensures) in
-    start-stopped _ _ _ (sequence-head t (c .before .before .before .before)) left (c .if1 .taken)
+returns-2 : (t : ℕ) → start-lts.Need-returns-2 (calls t) (start-at t) start.Post
+returns-2 t c =
+    let left = rw (c .before .before .before .first-part2 .ensures) at (c .before .before .start3 .ensures) in
+    start-stopped _ _ _ (sequence-head t (c .before .before .before .before)) left (c .if2 .taken)
 
 second-part-requires : (t : ℕ) → start-lts.Need-second-part-requires (calls t) (start-at t) start.Post
 second-part-requires t c κs =
@@ -138,8 +161,8 @@ second-part-requires t c κs =
     let arm = c .before .before .before .before in
     (run-number (entry .pre .1), run-within (run-left (entry .pre .1) (sequence-head t arm)))
 
-start-requires-3 : (t : ℕ) → start-lts.Need-start-requires-3 (calls t) (start-at t) start.Post
-start-requires-3 t c κs =
+start-requires-4 : (t : ℕ) → start-lts.Need-start-requires-4 (calls t) (start-at t) start.Post
+start-requires-4 t c κs =
     let entry = c .before .before .before .before .before .before .before .before .before .before .before .before in
     let arm = c .before .before .before .before .before in
     let here = run-within (entry .pre .1) in
@@ -148,7 +171,7 @@ start-requires-3 t c κs =
     rw (c .second-part .ensures) (omega (arith, entry .pre .0, here, further), run-right (entry .pre .1) head)
 
 followed-requires : (t : ℕ) → start-lts.Need-followed-requires (calls t) (start-at t) start.Post
-followed-requires t c κs = c .before .before .if1 .left
+followed-requires t c κs = c .before .before .if2 .left
 
 enum-known-b : (t : ℕ) → start-lts.Need-enum-known-b (calls t) (start-at t) start.Post
 enum-known-b t c = search needs
@@ -165,20 +188,20 @@ member-requires t c κs = search needs
 first-part-requires-3 : (t : ℕ) → start-lts.Need-first-part-requires-3 (calls t) (start-at t) start.Post
 first-part-requires-3 t c κs = run-number (c .before .before .before .before .before .before .before .before .before .before .before .pre .1)
 
-start-requires-4 : (t : ℕ) → start-lts.Need-start-requires-4 (calls t) (start-at t) start.Post
-start-requires-4 t c κs =
+start-requires-5 : (t : ℕ) → start-lts.Need-start-requires-5 (calls t) (start-at t) start.Post
+start-requires-5 t c κs =
     let entry = c .before .before .before .before .before .before .before .before .before .before .before .before in
     let arm = c .before .before .before .before in
     let here = run-within (entry .pre .1) in
     rw (c .first-part3 .ensures) (omega (arith, entry .pre .0, here), run-left (entry .pre .1) (present-head t arm))
 
-returns-2 : (t : ℕ) → start-lts.Need-returns-2 (calls t) (start-at t) start.Post
-returns-2 t c =
+returns-3 : (t : ℕ) → start-lts.Need-returns-3 (calls t) (start-at t) start.Post
+returns-3 t c =
     let number-ensures = c .before .before .before .before .number .ensures in
     let member-ensures = c .before .before .before .member .ensures in
     let arm = c .before .before .before .before .before in
-    let present = rw number-ensures at (sym member-ensures ∙ c .before .before .if2 .taken) in
-    let left = rw (c .before .first-part3 .ensures) at (c .start4 .ensures) in
+    let present = rw number-ensures at (sym member-ensures ∙ c .before .before .if3 .taken) in
+    let left = rw (c .before .first-part3 .ensures) at (c .start5 .ensures) in
     start-then _ _ _ (present-head t arm) present left
 
 second-part-requires-2 : (t : ℕ) → start-lts.Need-second-part-requires-2 (calls t) (start-at t) start.Post
@@ -187,8 +210,8 @@ second-part-requires-2 t c κs =
     let arm = c .before .before .before in
     (run-number (entry .pre .1), run-within (run-left (entry .pre .1) (present-head t arm)))
 
-start-requires-5 : (t : ℕ) → start-lts.Need-start-requires-5 (calls t) (start-at t) start.Post
-start-requires-5 t c κs =
+start-requires-6 : (t : ℕ) → start-lts.Need-start-requires-6 (calls t) (start-at t) start.Post
+start-requires-6 t c κs =
     let entry = c .before .before .before .before .before .before .before .before .before .before .before .before in
     let arm = c .before .before .before .before in
     let here = run-within (entry .pre .1) in
@@ -202,8 +225,8 @@ enum-told-2 t c = search needs
 first-part-requires-4 : (t : ℕ) → start-lts.Need-first-part-requires-4 (calls t) (start-at t) start.Post
 first-part-requires-4 t c κs = run-number (c .before .before .before .before .before .before .before .pre .1)
 
-start-requires-6 : (t : ℕ) → start-lts.Need-start-requires-6 (calls t) (start-at t) start.Post
-start-requires-6 t c κs =
+start-requires-7 : (t : ℕ) → start-lts.Need-start-requires-7 (calls t) (start-at t) start.Post
+start-requires-7 t c κs =
     let entry = c .before .before .before .before .before .before .before .before in
     let here = run-within (entry .pre .1) in
     rw (c .first-part4 .ensures) (omega (arith, entry .pre .0, here), run-left (entry .pre .1) (parallel-head t (c .before)))
@@ -213,8 +236,8 @@ second-part-requires-3 t c κs =
     let entry = c .before .before .before .before .before .before .before .before .before in
     (run-number (entry .pre .1), run-within (run-left (entry .pre .1) (parallel-head t (c .before .before))))
 
-start-requires-7 : (t : ℕ) → start-lts.Need-start-requires-7 (calls t) (start-at t) start.Post
-start-requires-7 t c κs =
+start-requires-8 : (t : ℕ) → start-lts.Need-start-requires-8 (calls t) (start-at t) start.Post
+start-requires-8 t c κs =
     let entry = c .before .before .before .before .before .before .before .before .before .before in
     let here = run-within (entry .pre .1) in
     let head = parallel-head t (c .before .before .before) in
@@ -224,37 +247,40 @@ start-requires-7 t c κs =
 beside-requires : (t : ℕ) → start-lts.Need-beside-requires (calls t) (start-at t) start.Post
 beside-requires t c κs = search needs
 
-returns-3 : (t : ℕ) → start-lts.Need-returns-3 (calls t) (start-at t) start.Post
-returns-3 t c = start-leaf _ _ _ (rw (c .before .before .before .before .row-at .ensures) at (c .before .before .head .given .1)) (c .leaf .ensures)
-
 returns-4 : (t : ℕ) → start-lts.Need-returns-4 (calls t) (start-at t) start.Post
-returns-4 t c =
-    let part = rw (c .before .before .first-part .ensures) at (c .before .start .ensures) in
-    start-one _ _ _ (one-head t (c .before .before .before)) part (c .passed .ensures)
+returns-4 t c = start-leaf _ _ _ (rw (c .before .before .before .before .row-at .ensures) at (c .before .before .head .given .1)) (c .leaf .ensures)
 
 returns-5 : (t : ℕ) → start-lts.Need-returns-5 (calls t) (start-at t) start.Post
 returns-5 t c =
-    let first-part2-ensures = c .before .before .before .before .before .before .first-part2 .ensures in
-    let start2-ensures = c .before .before .before .before .before .start2 .ensures in
-    let arm = c .before .before .before .before .before .before .before in
-    let left = rw first-part2-ensures at start2-ensures in
-    let right = rw (c .before .before .second-part .ensures) at (c .before .start3 .ensures) in
-    start-sequence _ _ _ (sequence-head t arm) left right (c .followed .ensures)
+    let at-is-trap = c .before .before in
+    let at-first-part = at-is-trap .before in
+    let part = rw (at-first-part .first-part .ensures) at (c .start2 .ensures) in
+    let other = sym (at-is-trap .is-trap .ensures) ∙ c .before .if1 .left in
+    start-part _ _ _ (one-head t (at-first-part .before)) part other
 
 returns-6 : (t : ℕ) → start-lts.Need-returns-6 (calls t) (start-at t) start.Post
 returns-6 t c =
-    let number-ensures = c .before .before .before .before .number .ensures in
-    let member-ensures = c .before .before .before .member .ensures in
-    let arm = c .before .before .before .before .before in
-    let absent = rw number-ensures at (sym member-ensures ∙ c .before .before .if2 .left) in
-    let right = rw (c .before .second-part2 .ensures) at (c .start5 .ensures) in
-    start-else _ _ _ (present-head t arm) absent right
+    let first-part2-ensures = c .before .before .before .before .before .before .first-part2 .ensures in
+    let start2-ensures = c .before .before .before .before .before .start3 .ensures in
+    let arm = c .before .before .before .before .before .before .before in
+    let left = rw first-part2-ensures at start2-ensures in
+    let right = rw (c .before .before .second-part .ensures) at (c .before .start4 .ensures) in
+    start-sequence _ _ _ (sequence-head t arm) left right (c .followed .ensures)
 
 returns-7 : (t : ℕ) → start-lts.Need-returns-7 (calls t) (start-at t) start.Post
 returns-7 t c =
+    let number-ensures = c .before .before .before .before .number .ensures in
+    let member-ensures = c .before .before .before .member .ensures in
     let arm = c .before .before .before .before .before in
-    let left = rw (c .before .before .before .before .first-part4 .ensures) at (c .before .before .before .start6 .ensures) in
-    let right = rw (c .before .before .second-part3 .ensures) at (c .before .start7 .ensures) in
+    let absent = rw number-ensures at (sym member-ensures ∙ c .before .before .if3 .left) in
+    let right = rw (c .before .second-part2 .ensures) at (c .start6 .ensures) in
+    start-else _ _ _ (present-head t arm) absent right
+
+returns-8 : (t : ℕ) → start-lts.Need-returns-8 (calls t) (start-at t) start.Post
+returns-8 t c =
+    let arm = c .before .before .before .before .before in
+    let left = rw (c .before .before .before .before .first-part4 .ensures) at (c .before .before .before .start7 .ensures) in
+    let right = rw (c .before .before .second-part3 .ensures) at (c .before .start8 .ensures) in
     start-parallel _ _ _ (parallel-head t arm) left right (c .beside .ensures)
 
 pub +start-spec : {M : Type 1} → statement M
@@ -266,33 +292,36 @@ pub +start-spec : {M : Type 1} → statement M
     (leaf-requires t)
     (enum-known-head-2 t)
     (first-part-requires t)
+    (is-trap-requires t)
     (start-requires t)
-    (passed-requires t)
+    (trapped-requires t)
+    (returns t)
+    (start-requires-2 t)
     (enum-known-head-3 t)
     (enum-told t)
     (first-part-requires-2 t)
-    (start-requires-2 t)
-    (returns t)
-    (second-part-requires t)
     (start-requires-3 t)
+    (returns-2 t)
+    (second-part-requires t)
+    (start-requires-4 t)
     (followed-requires t)
     (enum-known-b t)
     (number-requires t)
     (cast-member t)
     (member-requires t)
     (first-part-requires-3 t)
-    (start-requires-4 t)
-    (returns-2 t)
-    (second-part-requires-2 t)
     (start-requires-5 t)
+    (returns-3 t)
+    (second-part-requires-2 t)
+    (start-requires-6 t)
     (enum-told-2 t)
     (first-part-requires-4 t)
-    (start-requires-6 t)
-    (second-part-requires-3 t)
     (start-requires-7 t)
+    (second-part-requires-3 t)
+    (start-requires-8 t)
     (beside-requires t)
-    (returns-3 t)
     (returns-4 t)
     (returns-5 t)
     (returns-6 t)
     (returns-7 t)
+    (returns-8 t)

@@ -1,4 +1,4 @@
--- `none_set` of the bits past boot.
+-- `none_set` of all halts.
 use Rattle.rules.specs.States.{atRest}
 use borrow.Author.Needs.{needs}
 use Rattle.rules.proofs.at_rest.Statement.{statement}

@@ -1,6 +1,5 @@
 -- `with_operand` meets its contract: a register's operand goes to its place.
-use mathlib.Core.Path.{refl, sym}
-use native.Mathlib.Omega.{arith}
+use mathlib.Core.Path.{refl}
 use Rattle.run.specs.React.{operandsOf}
 use Rattle.run.proofs.Numbering.{not-kept, one-kept}
 use borrow.Author.Needs.{needs}

@@ -1,0 +1,3 @@
+pub mod CompileEntries
+pub mod OneCompileAnswer
+pub mod CellsBack

@@ -1,0 +1,2 @@
+pub mod ManyEntries
+pub mod OneManyAnswer

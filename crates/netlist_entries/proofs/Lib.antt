@@ -1,0 +1,4 @@
+pub mod NetEntries
+pub mod FileEntries
+pub mod CellEntries
+pub mod OneNetAnswer

@@ -1,0 +1,3 @@
+pub mod Netlists
+pub mod Files
+pub mod Cells

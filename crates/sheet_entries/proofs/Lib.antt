@@ -1,0 +1,2 @@
+pub mod SheetEntries
+pub mod OneSheetAnswer
