@@ -1,10 +1,10 @@
 /* Krankovel for C: Pure Esterel sheets are checked, compiled to netlists and run; netlists are checked, run, read and written.
 
-   Build:    rt staticlib c_library        makes target/staticlib/libc_library.a (x86-64 Linux)
-   Link:     cc PROGRAM.c -I include target/staticlib/libc_library.a
+   Build:    rt staticlib krankovel_c        makes target/staticlib/libkrankovel_c.a (x86-64 Linux)
+   Link:     cc PROGRAM.c -I include target/staticlib/libkrankovel_c.a
 
    Whatever is handed in is answered, or refused with a number and a place (below). Nothing has to be tested before, and each entry is proved to answer what its
-   contract in crates/c_library says, for every argument. No entry allocates, keeps anything between two calls, or calls the system: any number of threads may
+   contract in crates/krankovel_c says, for every argument. No entry allocates, keeps anything between two calls, or calls the system: any number of threads may
    call any of them at a time. Each needs at most 64 KB of stack (docs/SPEED.md has the figure of each).
 
    A SLICE is a pointer and a length, the number of its elements. The pointer is never null, also where the length is 0: then any other pointer will do, and it is not

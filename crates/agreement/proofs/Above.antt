@@ -6,17 +6,19 @@ use mathlib.Core.List.{List, [], _∷_, _++_}
 use Prim.Native.Nat.{ℕ, zero, suc, _+_}
 use lib.ListN.{length, getD}
 use Rattle.number.specs.declared.CellNo.{CellNo}
+use Rattle.number.proofs.Bools.{taut}
 use Rattle.sets.specs.Codes.{Codes, same}
-use Rattle.sets.proofs.Bools.{taut}
 use Rattle.rules.specs.Rules.{Signals}
 use Rattle.rules.specs.States.{State}
 use Rattle.rules.proofs.Codes.{same-self}
-use Rattle.gates.specs.declared.Cell.{Cell}
-use Rattle.gates.specs.Cells.{low, New, orAt, butnotAt}
+use Rattle.cells.specs.declared.Cell.{Cell}
+use Rattle.cells.specs.Cells.{low}
+use Rattle.cells.specs.declared.Gate.the-variants.{Or, Butnot}
+use Rattle.gates.specs.Folding.{New, orAt, butnotAt}
 use Rattle.gates.specs.Rows.{code, pairs, onlyIf, Highest, highest, parallelRow}
 use Rattle.gates.proofs.ParallelRow.{pairs-at}
 use Rattle.agreement.proofs.ParallelRuns.{least}
-use Rattle.agreement.proofs.Nets.{Solved, solved-left, solved-right, or-value, butnot-value, if-value}
+use Rattle.agreement.proofs.Nets.{Solved, solved-left, solved-right, gate-value, if-value}
 
 -- Where at most two codes are there, a where α holds and b where β does, X has those from j on; or, as a parallel wants it, those above j.
 abbrev TwoCodes : Codes → Bool → Bool → ℕ → ℕ → Type 0
@@ -103,12 +105,12 @@ module _ (cells : List Cell) (J : Signals) (S : State) (v : CellNo → Bool) (ze
       let s₁ : Solved cells J S v n₁ (m .cells ++ (b .cells ++ y .cells)) = solved-right cells J S v (r .cells) _ n h in
       let s₂ : Solved cells J S v n₂ (b .cells ++ y .cells) = solved-right cells J S v (m .cells) _ n₁ s₁ in
       let rest : HighestIs (λ j. keep (suc j)) cs r = highest-is cs n (λ j. keep (suc j)) (solved-left cells J S v (r .cells) _ n h) in
-      let m-is : v (m .net) ≡ (v (c .0) || v (c .1)) = or-value cells J S v zero-low n₁ (c .0) (c .1) (solved-left cells J S v (m .cells) _ n₁ s₁) in
+      let m-is : v (m .net) ≡ (v (c .0) || v (c .1)) = gate-value cells J S v zero-low Or n₁ (c .0) (c .1) (solved-left cells J S v (m .cells) _ n₁ s₁) in
       let b-is : v (b .net) ≡ (keep 0 && (v (m .net) && not (v x))) =
-      if-value cells J S v zero-low (keep 0) (butnotAt n₂ (m .net) x) n₂ _ (butnot-value cells J S v zero-low n₂ (m .net) x)
+      if-value cells J S v zero-low (keep 0) (butnotAt n₂ (m .net) x) n₂ _ (gate-value cells J S v zero-low Butnot n₂ (m .net) x)
       (solved-left cells J S v (b .cells) (y .cells) n₂ s₂) in
       let y-is : v (y .net) ≡ (v x || v (m .net)) =
-      or-value cells J S v zero-low n₃ x (m .net) (solved-right cells J S v (b .cells) (y .cells) n₂ s₂) in
+      gate-value cells J S v zero-low Or n₃ x (m .net) (solved-right cells J S v (b .cells) (y .cells) n₂ s₂) in
       record {
         codes = λ j. elim j [ zero ↦ rw m-is at b-is | suc i ↦ rest .codes i ];
         from = next-from (either (c ∷ cs)) (nets (r .above)) (nets (y .net ∷ r .above)) (rest .from) (rw m-is at y-is) (λ j. refl);
@@ -135,9 +137,9 @@ module _ (cells : List Cell) (J : Signals) (S : State) (v : CellNo → Bool) (ze
       let b : New = onlyIf (keep 0) (butnotAt n₂ (m .net) x) in
       let s₁ : Solved cells J S v n₁ (m .cells ++ b .cells) = solved-right cells J S v (r .cells) _ n h in
       let rest : HighestIs (λ j. keep (suc j)) cs r = highest-is cs n (λ j. keep (suc j)) (solved-left cells J S v (r .cells) _ n h) in
-      let m-is : v (m .net) ≡ (v (c .0) || v (c .1)) = or-value cells J S v zero-low n₁ (c .0) (c .1) (solved-left cells J S v (m .cells) _ n₁ s₁) in
+      let m-is : v (m .net) ≡ (v (c .0) || v (c .1)) = gate-value cells J S v zero-low Or n₁ (c .0) (c .1) (solved-left cells J S v (m .cells) _ n₁ s₁) in
       let b-is : v (b .net) ≡ (keep 0 && (v (m .net) && not (v x))) =
-      if-value cells J S v zero-low (keep 0) (butnotAt n₂ (m .net) x) n₂ _ (butnot-value cells J S v zero-low n₂ (m .net) x)
+      if-value cells J S v zero-low (keep 0) (butnotAt n₂ (m .net) x) n₂ _ (gate-value cells J S v zero-low Butnot n₂ (m .net) x)
       (solved-right cells J S v (m .cells) (b .cells) n₁ s₁) in
       record {
         codes = λ j. elim j [ zero ↦ rw m-is at b-is | suc i ↦ rest .codes i ];

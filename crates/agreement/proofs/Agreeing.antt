@@ -17,13 +17,13 @@ use Rattle.rules.specs.Rules.{Signals, Outcome}
 use Rattle.rules.specs.States.{State, tick, react, nextState, Event, Agrees, fits}
 use Rattle.rules.proofs.Own.{react-reads}
 use Rattle.rules.proofs.Again.{fits-again}
-use Rattle.gates.specs.declared.Cell.{Cell}
-use Rattle.gates.specs.Cells.{low, high, signalCell}
-use Rattle.gates.specs.Values.{cellAt, before, value, Solves, nextOf}
+use Rattle.cells.specs.declared.Cell.{Cell}
+use Rattle.cells.specs.Cells.{low, high, signalCell, cellAt}
+use Rattle.cells.specs.Values.{before, value, Solves, nextOf}
 use Rattle.builder.specs.Netlist.{sheetNetlist}
 use Rattle.run.specs.Held.{OneSolution}
 use Rattle.run.proofs.One.{held, a-solution, one-solution}
-use Rattle.agreement.specs.Demand.{others, signalsOf, Reaction}
+use Rattle.agreement.specs.Demand.{others, signalsOf, WholeReaction}
 use Rattle.agreement.specs.Rounds.{renewed}
 use Rattle.agreement.proofs.Admitted.{Admitted}
 use Rattle.agreement.proofs.Root.{next-is}
@@ -146,7 +146,7 @@ module _ (w : Sheet) (ok : Admitted w) (J : Signals) (event : Event (w .inputs) 
             agrees s ∙ past-signals (ok .proper) (ok .no-instant) (ok .no-twice) J event S fit E s (omega arith)
             ∙ sym (rw (le-ltb (ofSignal s) n (omega arith)))
 
-  pub reaction-of : Reaction w J S
+  pub reaction-of : WholeReaction w J S
   reaction-of =
       let one = a-solution cells (ok .order) (ok .ordered) J S in
       let v : CellNo → Bool = one .0 in

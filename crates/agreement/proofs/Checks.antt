@@ -6,6 +6,7 @@ use Prim.Native.Nat.{ℕ, zero, suc, _+_}
 use native.Mathlib.Omega.{arith}
 use Rattle.number.specs.declared.StmtNo.{StmtNo}
 use Rattle.number.specs.Number.{pick}
+use Rattle.number.proofs.Bools.{taut, or-left-off, or-right-off}
 use Rattle.sheet.specs.declared.Unary.the-variants.{Loop, Watching, Trap, Signal}
 use Rattle.sheet.specs.declared.Binary.the-variants.{Sequence, Present, Parallel}
 use Rattle.sheet.specs.Stmt.{Stmt, leaf, one, two, size}
@@ -14,7 +15,6 @@ use Rattle.sets.specs.declared.Found.the-variants.{At, Clear}
 use Rattle.sets.specs.Codes.{Codes, empty, join, replaced, less0, caughtCodes}
 use Rattle.sets.specs.Static.{K, R}
 use Rattle.sets.specs.Faults.{Climb, through, looped, besides, climbs, firstFault, twice}
-use Rattle.sets.proofs.Bools.{taut}
 use Rattle.agreement.proofs.Sound.{C, NoTwice}
 
 -- some climb met the fault
@@ -158,12 +158,6 @@ covers (two (Present s) p q) n j =
 covers (two Parallel p q) n j = itself-within (R (two Parallel p q) j) _
 
 -- no fault on either side, and none at a loop
-left-off : (a b : Bool) → (a || b) ≡ false → a ≡ false
-left-off = taut 2 1 _ _ _ tt
-
-right-off : (a b : Bool) → (a || b) ≡ false → b ≡ false
-right-off = taut 2 1 _ _ _ tt
-
 within-off : (c s : Bool) → (c && not s) ≡ false → s ≡ false → c ≡ false
 within-off = taut 2 2 _ _ _ tt
 
@@ -173,8 +167,8 @@ no-fault (leaf l) n f = tt
 no-fault (one Loop p) n f =
     let xs : List Climb = climbs (further n 1) p in
     let off : (some-fault xs || some xs 0) ≡ false = rw (fault-looped xs) at f in (
-      within-off (C p 0) (some xs 0) (covers p (further n 1) 0) (right-off (some-fault xs) (some xs 0) off),
-      no-fault p (further n 1) (left-off (some-fault xs) (some xs 0) off),
+      within-off (C p 0) (some xs 0) (covers p (further n 1) 0) (or-right-off (some-fault xs) (some xs 0) off),
+      no-fault p (further n 1) (or-left-off (some-fault xs) (some xs 0) off),
     )
 no-fault (one (Watching s) p) n f = no-fault p (further n 1) f
 no-fault (one Trap p) n f = no-fault p (further n 1) (rw (fault-through caughtCodes (climbs (further n 1) p)) at f)
@@ -184,23 +178,23 @@ no-fault (two Sequence p q) n f =
     let ys : List Climb = climbs (further n (1 + size p)) q in
     let off : (some-fault xs || some-fault ys) ≡ false =
     rw (fault-append (map (through (λ A. replaced A (K q))) xs) ys, fault-through (λ A. replaced A (K q)) xs) at f in (
-      no-fault p (further n 1) (left-off (some-fault xs) (some-fault ys) off),
-      no-fault q (further n (1 + size p)) (right-off (some-fault xs) (some-fault ys) off),
+      no-fault p (further n 1) (or-left-off (some-fault xs) (some-fault ys) off),
+      no-fault q (further n (1 + size p)) (or-right-off (some-fault xs) (some-fault ys) off),
     )
 no-fault (two (Present s) p q) n f =
     let xs : List Climb = climbs (further n 1) p in
     let ys : List Climb = climbs (further n (1 + size p)) q in
     let off : (some-fault xs || some-fault ys) ≡ false = rw (fault-append xs ys) at f in (
-      no-fault p (further n 1) (left-off (some-fault xs) (some-fault ys) off),
-      no-fault q (further n (1 + size p)) (right-off (some-fault xs) (some-fault ys) off),
+      no-fault p (further n 1) (or-left-off (some-fault xs) (some-fault ys) off),
+      no-fault q (further n (1 + size p)) (or-right-off (some-fault xs) (some-fault ys) off),
     )
 no-fault (two Parallel p q) n f =
     let xs : List Climb = climbs (further n 1) p in
     let ys : List Climb = climbs (further n (1 + size p)) q in
     let off : (some-fault xs || some-fault ys) ≡ false =
     rw (fault-append (map (through (besides q)) xs) (map (through (besides p)) ys), fault-through (besides q) xs, fault-through (besides p) ys) at f in (
-      no-fault p (further n 1) (left-off (some-fault xs) (some-fault ys) off),
-      no-fault q (further n (1 + size p)) (right-off (some-fault xs) (some-fault ys) off),
+      no-fault p (further n 1) (or-left-off (some-fault xs) (some-fault ys) off),
+      no-fault q (further n (1 + size p)) (or-right-off (some-fault xs) (some-fault ys) off),
     )
 
 -- TWICE is not answered

@@ -14,51 +14,50 @@ use Rattle.sheet.specs.declared.Binary.the-variants.{Sequence, Present, Paralle
 use Rattle.sheet.specs.Stmt.{Stmt, leaf, one, two}
 use Rattle.rules.specs.Rules.{Signals}
 use Rattle.rules.specs.States.{State}
-use Rattle.gates.specs.declared.Cell.{Cell}
-use Rattle.parts.specs.Equations.{buildEmit, buildHalt, build}
-use Rattle.parts.specs.Equations.{buildSequence, buildLoop, buildPresent, buildWatching, buildParallel, buildTrap}
-use Rattle.builder.proofs.Places.{Pins, built, onePins, leftPins, rightPins, Part, itself, in-one, in-left, in-right, part-stands}
+use Rattle.cells.specs.declared.Cell.{Cell}
+use Rattle.parts.specs.Equations.{buildEmit, buildHalt, build, buildSequence, buildLoop, buildPresent, buildWatching, buildParallel, buildTrap}
+use Rattle.builder.proofs.Places.{built, Part, itself, in-one, in-left, in-right, part-stands, Takes, oneTakes, leftTakes, rightTakes}
 use Rattle.agreement.proofs.Nets.{Solved, solved-left, solved-right}
 
 -- t, built with w, is a part of the root, which is built with x
-pub record Inside (root : Stmt) (x : Pins) (t : Stmt) (w : Pins) : Type 0 where
+pub record Inside (root : Stmt) (x : Takes) (t : Stmt) (w : Takes) : Type 0 where
   pub halts : ℕ
   pub part : Part root x t w halts
 
-pub whole : (t : Stmt) (w : Pins) → Inside t w t w
+pub whole : (t : Stmt) (w : Takes) → Inside t w t w
 whole t w = record { halts = 0; part = itself t w }
 
-deeper-one : {r p : Stmt} {u : Unary} {x w : Pins} {k : ℕ} → Part r x (one u p) w k → Inside r x p (onePins u w)
+deeper-one : {r p : Stmt} {u : Unary} {x w : Takes} {k : ℕ} → Part r x (one u p) w k → Inside r x p (oneTakes u w)
 deeper-one (itself t w) = record { halts = _; part = in-one (itself _ _) }
 deeper-one (in-one s) = let d = deeper-one s in record { halts = _; part = in-one (d .part) }
 deeper-one (in-left s) = let d = deeper-one s in record { halts = _; part = in-left (d .part) }
 deeper-one (in-right s) = let d = deeper-one s in record { halts = _; part = in-right (d .part) }
 
-deeper-left : {r p q : Stmt} {b : Binary} {x w : Pins} {k : ℕ} → Part r x (two b p q) w k → Inside r x p (leftPins b w)
+deeper-left : {r p q : Stmt} {b : Binary} {x w : Takes} {k : ℕ} → Part r x (two b p q) w k → Inside r x p (leftTakes b w)
 deeper-left (itself t w) = record { halts = _; part = in-left (itself _ _) }
 deeper-left (in-one s) = let d = deeper-left s in record { halts = _; part = in-one (d .part) }
 deeper-left (in-left s) = let d = deeper-left s in record { halts = _; part = in-left (d .part) }
 deeper-left (in-right s) = let d = deeper-left s in record { halts = _; part = in-right (d .part) }
 
-deeper-right : {r p q : Stmt} {b : Binary} {x w : Pins} {k : ℕ} → Part r x (two b p q) w k → Inside r x q (rightPins b p w)
+deeper-right : {r p q : Stmt} {b : Binary} {x w : Takes} {k : ℕ} → Part r x (two b p q) w k → Inside r x q (rightTakes b p w)
 deeper-right (itself t w) = record { halts = _; part = in-right (itself _ _) }
 deeper-right (in-one s) = let d = deeper-right s in record { halts = _; part = in-one (d .part) }
 deeper-right (in-left s) = let d = deeper-right s in record { halts = _; part = in-left (d .part) }
 deeper-right (in-right s) = let d = deeper-right s in record { halts = _; part = in-right (d .part) }
 
-module _ {r : Stmt} {x w : Pins} where
-  pub inside-one : {u : Unary} {p : Stmt} → Inside r x (one u p) w → Inside r x p (onePins u w)
+module _ {r : Stmt} {x w : Takes} where
+  pub inside-one : {u : Unary} {p : Stmt} → Inside r x (one u p) w → Inside r x p (oneTakes u w)
   inside-one s = deeper-one (s .part)
 
-  pub inside-left : {b : Binary} {p q : Stmt} → Inside r x (two b p q) w → Inside r x p (leftPins b w)
+  pub inside-left : {b : Binary} {p q : Stmt} → Inside r x (two b p q) w → Inside r x p (leftTakes b w)
   inside-left s = deeper-left (s .part)
 
-  pub inside-right : {b : Binary} {p q : Stmt} → Inside r x (two b p q) w → Inside r x q (rightPins b p w)
+  pub inside-right : {b : Binary} {p q : Stmt} → Inside r x (two b p q) w → Inside r x q (rightTakes b p w)
   inside-right s = deeper-right (s .part)
 
 -- where the root's cells are solved so are the part's
 module _ (cells : List Cell) (J : Signals) (S : State) (v : CellNo → Bool) where
-  pub part-solved : {r t : Stmt} {x w : Pins} → Solved cells J S v (x .first) ((built r x) .cells) → Inside r x t w
+  pub part-solved : {r t : Stmt} {x w : Takes} → Solved cells J S v (x .first) ((built r x) .cells) → Inside r x t w
       → Solved cells J S v (w .first) ((built t w) .cells)
   part-solved {r} {t} {x} {w} h s =
       let k = part-stands (s .part) in

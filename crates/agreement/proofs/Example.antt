@@ -12,7 +12,7 @@ use Rattle.sheet.specs.Read.{Sheet, sheet, signalOf, naming, emitting, exiting,
 use Rattle.sheet.specs.Read.{ended, rootRead, afterOutputs, afterInputs, readSheet}
 use Rattle.sets.specs.Static.{K, R, hasHalts}
 use Rattle.sets.specs.Faults.{orElse, instant, climbs, firstFault, twice}
-use Rattle.gates.specs.Cells.{orAt, andAt, butnotAt}
+use Rattle.gates.specs.Folding.{gateAt}
 use Rattle.gates.specs.Rows.{orRow, pairs, highest, parallelRow}
 use Rattle.parts.specs.Equations.{build, buildHalt, buildEmit, buildSequence, buildLoop, buildPresent, buildWatching, buildParallel, buildTrap}
 use Rattle.builder.specs.Netlist.{netlist, sheetNetlist, rootOf, inputCells, signalCells}
@@ -48,13 +48,13 @@ p10Places =
     ∷ (29 ∷ (18 ∷ (30 ∷ (19 ∷ (20 ∷ (21 ∷ (32 ∷ (22 ∷ (23 ∷ (33 ∷ (34 ∷ []))))))))))))))))))))))))))))))))))
 
 p10-ordered : Ordered (sheetNetlist p10) p10Order
-unfolding pick size haltCount localCount K R hasHalts orAt andAt butnotAt orRow pairs highest parallelRow build buildHalt buildEmit buildSequence buildLoop
+unfolding pick size haltCount localCount K R hasHalts gateAt orRow pairs highest parallelRow build buildHalt buildEmit buildSequence buildLoop
     buildPresent buildWatching buildParallel buildTrap netlist rootOf inputCells signalCells every inOrder
 p10-ordered = ordered (sheetNetlist p10) p10Order p10Places refl
 
 p10-judged : judge p10Bytes ≡ sheet p10
 unfolding numberAt pick size haltCount localCount signalOf naming emitting exiting haltAt localAt trapAt ofKind headOfKind inside andThen parts readStmt
-    ended rootRead afterOutputs afterInputs readSheet K R hasHalts orElse instant climbs firstFault twice orAt andAt butnotAt orRow pairs highest
+    ended rootRead afterOutputs afterInputs readSheet K R hasHalts orElse instant climbs firstFault twice gateAt orRow pairs highest
     parallelRow build buildHalt buildEmit buildSequence buildLoop buildPresent buildWatching buildParallel buildTrap netlist rootOf inputCells signalCells
     unless roomy judged judge
 p10-judged = refl

@@ -4,12 +4,12 @@ use mathlib.Core.Bool.{Bool, false, _&&_, _||_}
 use Prim.Native.Nat.{ℕ}
 use Rattle.number.specs.declared.SignalNo.{SignalNo}
 use Rattle.number.specs.declared.HaltNo.{HaltNo}
+use Rattle.number.proofs.Bools.{taut}
 use Rattle.sheet.specs.declared.Leaf.the-variants.{Nothing, Halt, Emit, Exit}
 use Rattle.sheet.specs.Stmt.{leaf}
 use Rattle.sheet.specs.Read.{only}
 use Rattle.sets.specs.Codes.{Codes, same}
 use Rattle.sets.specs.Static.{K}
-use Rattle.sets.proofs.Bools.{taut}
 use Rattle.rules.specs.Rules.{Signals, Halts, onlyHalt, start, active, resume}
 use Rattle.agreement.proofs.Sound.{C, Par}
 use Rattle.agreement.proofs.Runs.{live, Runs}

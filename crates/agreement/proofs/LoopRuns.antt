@@ -4,11 +4,11 @@ use mathlib.Core.Bool.{Bool, false, not, _&&_, _||_}
 use Prim.Native.Nat.{ℕ, zero, suc}
 use Rattle.number.specs.declared.SignalNo.{SignalNo}
 use Rattle.number.specs.declared.HaltNo.{HaltNo}
+use Rattle.number.proofs.Bools.{taut}
 use Rattle.sheet.specs.declared.Unary.the-variants.{Loop}
 use Rattle.sheet.specs.Stmt.{Stmt, one}
 use Rattle.sets.specs.Codes.{Codes, same, less0}
 use Rattle.sets.specs.Static.{K}
-use Rattle.sets.proofs.Bools.{taut}
 use Rattle.rules.specs.Rules.{Signals, Halts, Outcome, followed, start, active, resume}
 use Rattle.rules.proofs.Halting.{resume-halting}
 use Rattle.agreement.proofs.Sound.{C, Par, Sound}

@@ -12,6 +12,7 @@ use borrow.Author.Tests.{ne-eqb}
 use Rattle.number.specs.Counts.{cellNo, ofCell, signalNo, ofSignal, stmtNo}
 use Rattle.number.specs.declared.CellNo.{CellNo}
 use Rattle.number.specs.declared.SignalNo.{SignalNo}
+use Rattle.number.proofs.Bools.{off}
 use Rattle.sheet.specs.Stmt.{Stmt, localCount}
 use Rattle.sheet.specs.Read.{only}
 use Rattle.sheet.specs.Form.{Proper}
@@ -21,25 +22,26 @@ use Rattle.sets.specs.Faults.{instant}
 use Rattle.rules.specs.Rules.{Signals}
 use Rattle.rules.specs.States.{State, tick, react, Event, fits}
 use Rattle.rules.proofs.Own.{react-emits, react-reads}
-use Rattle.gates.specs.declared.Cell.{Cell}
-use Rattle.gates.specs.declared.Cell.the-variants.{Low, High, Or, Butnot, Register}
-use Rattle.gates.specs.Cells.{low, high, signalCell}
-use Rattle.gates.specs.Values.{cellAt, value}
+use Rattle.cells.specs.declared.Cell.{Cell}
+use Rattle.cells.specs.declared.Cell.the-variants.{Low, High, Gate, Register}
+use Rattle.cells.specs.declared.Gate.the-variants.{Or, Butnot}
+use Rattle.cells.specs.Cells.{low, high, signalCell, cellAt}
+use Rattle.cells.specs.Values.{value}
 use Rattle.parts.specs.Equations.{listOf}
 use Rattle.builder.specs.Netlist.{inputCells, signalCells, netlist}
 use Rattle.builder.proofs.Ends.{length-inputs, length-signals}
 use Rattle.builder.proofs.Format.{root, input-at, boot-split}
 use Rattle.agreement.specs.Rounds.{renewed}
 use Rattle.agreement.proofs.Sound.{NoTwice}
-use Rattle.agreement.proofs.Root.{Asked, absent, emitted}
+use Rattle.agreement.proofs.Root.{Asked, emitted}
 
 -- Where the signals' cells stand.
-list-at : (L : List CellNo) (s k j : ℕ) → j < k → getD (signalCells L s k) j Low ≡ Or (listOf L (signalNo (s + j))) low
+list-at : (L : List CellNo) (s k j : ℕ) → j < k → getD (signalCells L s k) j Low ≡ Gate Or (listOf L (signalNo (s + j))) low
 unfolding signalCells
 list-at L s zero j h = absurd (not-suc-le-zero h)
-list-at L s (suc k) zero h = ap (λ (x : ℕ). Or (listOf L (signalNo x)) low) (sym (add-zero s))
+list-at L s (suc k) zero h = ap (λ (x : ℕ). Gate Or (listOf L (signalNo x)) low) (sym (add-zero s))
 list-at L s (suc k) (suc j) h =
-    list-at L (suc s) k j (le-of-suc-le-suc h) ∙ ap (λ (x : ℕ). Or (listOf L (signalNo x)) low) (suc-add s j ∙ sym (add-suc s j))
+    list-at L (suc s) k j (le-of-suc-le-suc h) ∙ ap (λ (x : ℕ). Gate Or (listOf L (signalNo x)) low) (suc-add s j ∙ sym (add-suc s j))
 
 module _ (I U : ℕ) (t : Stmt) where
   pub tick-at : cellAt (netlist I U t) high ≡ High
@@ -51,12 +53,12 @@ module _ (I U : ℕ) (t : Stmt) where
   zero-at = refl
 
   -- "cell 1+s of each output and local becomes or(list, 0)"
-  pub signal-at : (k : ℕ) → k < U → cellAt (netlist I U t) (cellNo (suc (suc (I + k)))) ≡ Or (listOf (root I U t .lists) (signalNo (1 + I + k))) low
+  pub signal-at : (k : ℕ) → k < U → cellAt (netlist I U t) (cellNo (suc (suc (I + k)))) ≡ Gate Or (listOf (root I U t .lists) (signalNo (1 + I + k))) low
   signal-at k l =
       let L : List CellNo = root I U t .lists in
       let signals : List Cell = signalCells L (1 + I) U in
       let inputs : List Cell = inputCells 1 I in
-      let rest : List Cell = Register high ∷ (Butnot high (cellNo (2 + I + U)) ∷ root I U t .cells) in
+      let rest : List Cell = Register high ∷ (Gate Butnot high (cellNo (2 + I + U)) ∷ root I U t .cells) in
       let short : I + k < length (inputs ++ signals) = omega (arith, length-append inputs signals, length-inputs 1 I, length-signals L (1 + I) U) in
       let skipped : getD (inputs ++ signals) (I + k) Low ≡ getD signals k Low =
       subst (λ (m : ℕ). getD (inputs ++ signals) (m + k) Low ≡ getD signals k Low) (length-inputs 1 I) (getD-append-add inputs signals k Low) in
@@ -73,7 +75,7 @@ module _ {I O : ℕ} {t : Stmt} (proper : Proper I O t) where
   pub not-emitted : (E : Signals) (S : State) (s : SignalNo) → (I < ofSignal s → ofSignal s < 1 + I + (O + localCount t) → ⊥)
       → (react E S t) .emits s ≡ false
   not-emitted E S s outside =
-      absent ((react E S t) .emits s)
+      off ((react E S t) .emits s)
       (λ on. let own = react-emits I (1 + I + (O + localCount t)) E S t scoped s on in outside (own .0) (own .1))
 
 module _ {I O : ℕ} {t : Stmt} (proper : Proper I O t) (clear : instant (stmtNo 0) t ≡ Clear) (once : NoTwice t)

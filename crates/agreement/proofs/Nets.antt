@@ -1,6 +1,6 @@
 -- The values of nets, where the cells that make them are solved: gates with their folding, rows of codes, signals' lists.
-use mathlib.Core.Path.{_≡_, refl, sym, _∙_, ap, subst}
-use mathlib.Core.Bool.{Bool, true, false, not, _&&_, _||_, and-true, or-false, and-false}
+use mathlib.Core.Path.{_≡_, sym, _∙_, ap, subst}
+use mathlib.Core.Bool.{Bool, true, false, _&&_, _||_, and-true, or-false, and-false}
 use mathlib.Core.List.{List, [], _∷_, _++_}
 use Prim.Native.Nat.{ℕ, zero, suc, _+_, _-_, _<_}
 use native.Mathlib.Nat.{add-zero, add-suc, suc-add}
@@ -9,18 +9,23 @@ use lib.ListN.{length, getD, set, replicate}
 use lib.Seq.{getD-set-same, getD-set-other}
 use borrow.Author.Tests.{eqb-true, eq-eqb, ne-eqb}
 use Rattle.number.specs.Counts.{cellNo, ofCell, ofSignal}
-use Rattle.number.specs.Number.{pick}
 use Rattle.number.specs.declared.CellNo.{CellNo}
 use Rattle.number.specs.declared.SignalNo.{SignalNo}
+use Rattle.limits.specs.Limits.{maxCodes}
 use Rattle.sheet.specs.Read.{only as onlySignal}
 use Rattle.sets.specs.Codes.{same}
 use Rattle.rules.specs.Rules.{Signals}
 use Rattle.rules.specs.States.{State}
-use Rattle.gates.specs.declared.Cell.{Cell}
-use Rattle.gates.specs.declared.Cell.the-variants.{Or, And, Butnot}
-use Rattle.gates.specs.Cells.{low, isLow, New, old, new, orAt, andAt, butnotAt}
+use Rattle.cells.specs.declared.Cell.{Cell}
+use Rattle.cells.specs.declared.Gate.the-variants.{Or, And, Butnot}
+use Rattle.cells.specs.declared.Cell.the-variants.{Gate}
+use Rattle.cells.specs.Cells.{low, isLow, cellAt}
+use Rattle.cells.specs.Values.{before, value}
+use Rattle.cells.specs.declared.Gate as gate
+use Rattle.cells.specs.Cells.{truth}
+use Rattle.gates.specs.Folding.{New, firstLow, secondLow, gateAt, orAt}
 use Rattle.gates.specs.Rows.{code, only, orRow, onlyIf}
-use Rattle.gates.specs.Values.{cellAt, before, value}
+use Rattle.gates.proofs.Laws.{by-folding}
 use Rattle.parts.specs.Equations.{listOf}
 
 -- The cells cs stand in the netlist `cells` from number n on, and v has the value that each asks for, with the inputs J in the state S.
@@ -46,38 +51,22 @@ module _ (cells : List Cell) (J : Signals) (S : State) (v : CellNo → Bool) whe
     folded : (x : CellNo) → isLow x ≡ true → v x ≡ false
     folded x e = ap (λ (k : ℕ). v (cellNo k)) (eqb-true (ofCell x) 0 e) ∙ zero-low
 
-    or-by : (n : ℕ) (x y : CellNo) (a b : Bool) → isLow x ≡ a → isLow y ≡ b → let w : New = pick a (old y) (pick b (old x) (new n (Or x y))) in
-        Solved cells J S v n (w .cells) → v (w .net) ≡ (v x || v y)
-    unfolding pick Solved
-    or-by n x y true b e f h = rw (folded x e)
-    or-by n x y false true e f h = rw (folded y f, or-false)
-    or-by n x y false false e f h = h .0 .1
+    first-value : (g : gate.Gate) (x y : CellNo) → v x ≡ false → v (firstLow g y) ≡ truth g (v x) (v y)
+    first-value Or x y e = rw e
+    first-value And x y e = rw (zero-low, e)
+    first-value Butnot x y e = rw (zero-low, e)
 
-    pub or-value : (n : ℕ) (x y : CellNo) → Solved cells J S v n ((orAt n x y) .cells) → v ((orAt n x y) .net) ≡ (v x || v y)
-    unfolding orAt
-    or-value n x y h = or-by n x y (isLow x) (isLow y) refl refl h
+    second-value : (g : gate.Gate) (x y : CellNo) → v y ≡ false → v (secondLow g x) ≡ truth g (v x) (v y)
+    second-value Or x y e = rw (e, or-false)
+    second-value And x y e = rw (zero-low, e, and-false)
+    second-value Butnot x y e = rw (e, and-true)
 
-    and-by : (n : ℕ) (x y : CellNo) (a b : Bool) → isLow x ≡ a → isLow y ≡ b → let w : New = pick a (old low) (pick b (old low) (new n (And x y))) in
-        Solved cells J S v n (w .cells) → v (w .net) ≡ (v x && v y)
-    unfolding pick Solved
-    and-by n x y true b e f h = rw (zero-low, folded x e)
-    and-by n x y false true e f h = rw (zero-low, folded y f, and-false)
-    and-by n x y false false e f h = h .0 .1
-
-    pub and-value : (n : ℕ) (x y : CellNo) → Solved cells J S v n ((andAt n x y) .cells) → v ((andAt n x y) .net) ≡ (v x && v y)
-    unfolding andAt
-    and-value n x y h = and-by n x y (isLow x) (isLow y) refl refl h
-
-    butnot-by : (n : ℕ) (x y : CellNo) (a b : Bool) → isLow x ≡ a → isLow y ≡ b → let w : New = pick a (old low) (pick b (old x) (new n (Butnot x y))) in
-        Solved cells J S v n (w .cells) → v (w .net) ≡ (v x && not (v y))
-    unfolding pick Solved
-    butnot-by n x y true b e f h = rw (zero-low, folded x e)
-    butnot-by n x y false true e f h = rw (folded y f, and-true)
-    butnot-by n x y false false e f h = h .0 .1
-
-    pub butnot-value : (n : ℕ) (x y : CellNo) → Solved cells J S v n ((butnotAt n x y) .cells) → v ((butnotAt n x y) .net) ≡ (v x && not (v y))
-    unfolding butnotAt
-    butnot-value n x y h = butnot-by n x y (isLow x) (isLow y) refl refl h
+    pub gate-value : (g : gate.Gate) (n : ℕ) (x y : CellNo) → Solved cells J S v n ((gateAt g n x y) .cells)
+        → v ((gateAt g n x y) .net) ≡ truth g (v x) (v y)
+    unfolding Solved
+    gate-value g n x y =
+        by-folding (λ (w : New). Solved cells J S v n (w .cells) → v (w .net) ≡ truth g (v x) (v y)) g n x y
+        (λ e h. first-value g x y (folded x e)) (λ e h. second-value g x y (folded y e)) (λ h. h .0 .1)
 
     pub if-value : (b : Bool) (w : New) (n : ℕ) (a : Bool) → (Solved cells J S v n (w .cells) → v (w .net) ≡ a)
         → Solved cells J S v n ((onlyIf b w) .cells) → v ((onlyIf b w) .net) ≡ (b && a)
@@ -90,7 +79,7 @@ module _ (cells : List Cell) (J : Signals) (S : State) (v : CellNo → Bool) whe
     unfolding orRow
     row-value [] qs n h j = rw zero-low
     row-value (p ∷ ps) [] n h j = rw (zero-low, or-false)
-    row-value (p ∷ ps) (q ∷ qs) n h zero = or-value n p q (solved-left ((orAt n p q) .cells) _ n h)
+    row-value (p ∷ ps) (q ∷ qs) n h zero = gate-value Or n p q (solved-left ((orAt n p q) .cells) _ n h)
     row-value (p ∷ ps) (q ∷ qs) n h (suc j) =
         row-value ps qs (n + length ((orAt n p q) .cells)) (solved-right ((orAt n p q) .cells) _ n h) j
 
@@ -106,7 +95,7 @@ module _ (cells : List Cell) (J : Signals) (S : State) (v : CellNo → Bool) whe
     only-by (suc k) m x (suc j) = only-by k m x j
 
     pub only-value : (k : ℕ) (x : CellNo) (j : ℕ) → v (code (only k x) j) ≡ (v x && same k j)
-    only-value k x j = only-by k (9 - k) x j
+    only-value k x j = only-by k (maxCodes - suc k) x j
 
 -- "the signal's list becomes or(list, g)"
 pub list-value : (v : CellNo → Bool) (L : List CellNo) (x : SignalNo) (y : CellNo) (γ : Bool) → v y ≡ (v (listOf L x) || γ)

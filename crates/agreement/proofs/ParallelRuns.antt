@@ -5,11 +5,11 @@ use Prim.Native.Nat.{ℕ, zero, suc}
 use Rattle.number.specs.declared.SignalNo.{SignalNo}
 use Rattle.number.specs.declared.HaltNo.{HaltNo}
 use Rattle.number.specs.Number.{pick}
+use Rattle.number.proofs.Bools.{taut}
 use Rattle.sheet.specs.declared.Binary.the-variants.{Parallel}
 use Rattle.sheet.specs.Stmt.{Stmt, two}
 use Rattle.sets.specs.Codes.{Codes, same, join, larger}
 use Rattle.sets.specs.Static.{K, R}
-use Rattle.sets.proofs.Bools.{taut}
 use Rattle.rules.specs.Rules.{Signals, Halts, Outcome, idle, kept, start, active, resume}
 use Rattle.rules.proofs.Codes.{resume-in-R}
 use Rattle.agreement.proofs.Sound.{C, Par, Sound}

@@ -5,12 +5,13 @@ use Prim.Native.Nat.{ℕ}
 use Rattle.number.specs.declared.SignalNo.{SignalNo}
 use Rattle.number.specs.declared.HaltNo.{HaltNo}
 use Rattle.number.specs.Number.{pick}
+use Rattle.number.proofs.Bools.{taut}
 use Rattle.sheet.specs.declared.Binary.the-variants.{Present}
 use Rattle.sheet.specs.Stmt.{Stmt, two}
 use Rattle.sets.specs.Codes.{Codes, same}
 use Rattle.sets.specs.Static.{K}
-use Rattle.sets.proofs.Bools.{taut}
 use Rattle.rules.specs.Rules.{Signals, Halts, Outcome, start, active, resume}
+use Rattle.rules.proofs.Again.{swap}
 use Rattle.agreement.proofs.Sound.{C, Par, Sound}
 use Rattle.agreement.proofs.Runs.{live, Runs, par-active, started, choose, pick-code, pick-emits, pick-halts}
 
@@ -32,9 +33,6 @@ side-both = taut 9 5 _ _ _ tt
 joined-both : (ρ up uq x y kp kq cp cq : Bool) → (((ρ && (up || uq)) && x) && not (kp || cp)) ≡ false
     → (((ρ && (uq || up)) && y) && not (kq || cq)) ≡ false → (((ρ && (up || uq)) && (x || y)) && not ((kp || kq) || (cp || cq))) ≡ false
 joined-both = taut 9 2 _ _ _ tt
-
-swap : (a b : Bool) → (a && b) ≡ false → (b && a) ≡ false
-swap = taut 2 1 _ _ _ tt
 
 module _ (E : Signals) (H : Halts) (s : SignalNo) (p q : Stmt) (γ ρ : Bool) (Pp Pq P : Codes) (Mp Mq M : Signals) (Wp Wq W : Halts)
     (sp : Sound H p) (sq : Sound H q) (side : (active H p && active H q) ≡ false)

@@ -9,6 +9,8 @@ use Rattle.number.specs.Counts.{cellNo, ofSignal, ofHalt}
 use Rattle.number.specs.declared.CellNo.{CellNo}
 use Rattle.number.specs.declared.SignalNo.{SignalNo}
 use Rattle.number.specs.declared.HaltNo.{HaltNo}
+use Rattle.number.proofs.Bools.{taut}
+use Rattle.bits.specs.Bits.{haltBit}
 use Rattle.sheet.specs.declared.Leaf.the-variants.{Nothing, Halt, Emit, Exit}
 use Rattle.sheet.specs.declared.Unary.the-variants.{Loop, Watching, Trap, Signal}
 use Rattle.sheet.specs.declared.Binary.the-variants.{Sequence, Present, Parallel}
@@ -16,19 +18,20 @@ use Rattle.sheet.specs.Stmt.{Stmt, leaf, one, two}
 use Rattle.sheet.specs.Read.{only as onlySignal}
 use Rattle.sheet.proofs.Notions.{inHalts}
 use Rattle.sets.specs.Codes.{Codes, same, empty, join}
-use Rattle.sets.proofs.Bools.{taut}
 use Rattle.rules.specs.Rules.{Signals, Halts, onlyHalt, active}
-use Rattle.rules.specs.States.{State, haltBit, haltsOf}
+use Rattle.rules.specs.States.{State, haltsOf}
 use Rattle.rules.proofs.Codes.{NoInstant}
 use Rattle.rules.proofs.Again.{Disjoint}
-use Rattle.gates.specs.declared.Cell.{Cell}
-use Rattle.gates.specs.declared.Cell.the-variants.{Register}
-use Rattle.gates.specs.Cells.{low, New, orAt, andAt, butnotAt, signalCell}
+use Rattle.cells.specs.declared.Cell.{Cell}
+use Rattle.cells.specs.declared.Cell.the-variants.{Register}
+use Rattle.cells.specs.Cells.{low, signalCell, cellAt}
+use Rattle.cells.specs.Values.{before}
+use Rattle.cells.specs.declared.Gate.the-variants.{Or, And, Butnot}
+use Rattle.gates.specs.Folding.{New, orAt, andAt, butnotAt}
 use Rattle.gates.specs.Rows.{code, withCode0, Row, orRow, trapRow, pairs, Highest, parallelRow, killOf}
-use Rattle.gates.specs.Values.{cellAt, before}
 use Rattle.gates.proofs.OrRow.{with-code0-at, trap-at}
-use Rattle.parts.specs.Equations.{Built, listOf, past, given, buildExit, buildEmit, buildHalt}
-use Rattle.parts.specs.Equations.{buildSequence, buildLoop, buildPresent, buildWatching, buildParallel, buildTrap}
+use Rattle.parts.specs.Equations.{Built, listOf, past, given, buildExit, buildEmit, buildHalt, buildSequence, buildLoop, buildPresent, buildWatching}
+use Rattle.parts.specs.Equations.{buildParallel, buildTrap}
 use Rattle.agreement.proofs.Sound.{NoTwice, Sound, sound-one, sound-left, sound-right, sequence-side, present-side}
 use Rattle.agreement.proofs.Runs.{Runs, either-within}
 use Rattle.agreement.proofs.LeafRuns.{nothing-runs, emit-runs, exit-runs, halt-runs}
@@ -38,7 +41,7 @@ use Rattle.agreement.proofs.TrapRuns.{trap-runs, signal-runs}
 use Rattle.agreement.proofs.SequenceRuns.{sequence-runs}
 use Rattle.agreement.proofs.PresentRuns.{present-runs}
 use Rattle.agreement.proofs.ParallelRuns.{parallel-runs}
-use Rattle.agreement.proofs.Nets.{Solved, solved-left, solved-right, or-value, and-value, butnot-value, row-value, only-value, list-value}
+use Rattle.agreement.proofs.Nets.{Solved, solved-left, solved-right, gate-value, row-value, only-value, list-value}
 use Rattle.agreement.proofs.Above.{ParallelIs, parallel-is}
 
 -- halts of two sides, and of two sides under a kill
@@ -144,7 +147,7 @@ module _ (cells : List Cell) (J : Signals) (S : State) (v : CellNo → Bool) (ze
         sent = λ s. v g && onlySignal x s;
         want = empty;
         runs = emit-runs E H (v g) (v r) _ _ _ x (only-value cells J S v zero-low 0 g) (λ s. refl) (λ h. refl);
-        lists = list-value v L x _ (v g) (or-value cells J S v zero-low n (listOf L x) g h);
+        lists = list-value v L x _ (v g) (gate-value cells J S v zero-low Or n (listOf L x) g h);
         own = λ h. refl;
         keeps = λ h e. absurd (false≢true e);
       }
@@ -161,12 +164,12 @@ module _ (cells : List Cell) (J : Signals) (S : State) (v : CellNo → Bool) (ze
       let s₁ : At n₁ (w .cells ++ u .cells) = solved-right cells J S v (x .cells) (w .cells ++ u .cells) (suc n) (h .1) in
       let register : v (cellNo n) ≡ H k = h .0 .1 ∙ ap S bit in
       let x-is : v (x .net) ≡ (v r && v (cellNo n)) =
-      and-value cells J S v zero-low (suc n) r (cellNo n) (solved-left cells J S v (x .cells) (w .cells ++ u .cells) (suc n) (h .1)) in
-      let w-is : v (w .net) ≡ (v g || v (x .net)) = or-value cells J S v zero-low n₁ g (x .net) (solved-left cells J S v (w .cells) (u .cells) n₁ s₁) in
+      gate-value cells J S v zero-low And (suc n) r (cellNo n) (solved-left cells J S v (x .cells) (w .cells ++ u .cells) (suc n) (h .1)) in
+      let w-is : v (w .net) ≡ (v g || v (x .net)) = gate-value cells J S v zero-low Or n₁ g (x .net) (solved-left cells J S v (w .cells) (u .cells) n₁ s₁) in
       let halted : Bool = v g || (v r && H k) in
       let code-one : v (w .net) ≡ halted = rw (← register, ← x-is) w-is in
       let u-is : v (u .net) ≡ (v (w .net) && not (v i)) =
-      butnot-value cells J S v zero-low n₂ (w .net) i (solved-right cells J S v (w .cells) (u .cells) n₁ s₁) in
+      gate-value cells J S v zero-low Butnot n₂ (w .net) i (solved-right cells J S v (w .cells) (u .cells) n₁ s₁) in
       record {
         sel = register;
         sent = empty;
@@ -206,7 +209,7 @@ module _ (cells : List Cell) (J : Signals) (S : State) (v : CellNo → Bool) (ze
         solved-right cells J S v (b .cells) (sels .cells ++ cs) n₁ (solved-right cells J S v (a .cells) (b .cells ++ (sels .cells ++ cs)) n h)
 
     sels-value : (cs : List Cell) → Both cs → v (sels .net) ≡ (v (a .sel) || v (b .sel))
-    sels-value cs h = or-value cells J S v zero-low n₂ (a .sel) (b .sel) (solved-left cells J S v (sels .cells) cs n₂ (past-parts cs h))
+    sels-value cs h = gate-value cells J S v zero-low Or n₂ (a .sel) (b .sel) (solved-left cells J S v (sels .cells) cs n₂ (past-parts cs h))
 
     past-sels : (cs : List Cell) → Both cs → At n₃ cs
     past-sels cs h = solved-right cells J S v (sels .cells) cs n₂ (past-parts cs h)
@@ -260,9 +263,9 @@ module _ (cells : List Cell) (J : Signals) (S : State) (v : CellNo → Bool) (ze
         let past-x : At (past n x) (y .cells ++ parts) = solved-right cells J S v (x .cells) (y .cells ++ parts) n h in
         let past-y : At m parts = solved-right cells J S v (y .cells) parts (past n x) past-x in
         let x-is : v (x .net) ≡ (v g && E s) =
-        and-value cells J S v zero-low n g (signalCell s) (solved-left cells J S v (x .cells) (y .cells ++ parts) n h) in
+        gate-value cells J S v zero-low And n g (signalCell s) (solved-left cells J S v (x .cells) (y .cells ++ parts) n h) in
         let y-is : v (y .net) ≡ (v g && not (E s)) =
-        butnot-value cells J S v zero-low (past n x) g (signalCell s) (solved-left cells J S v (y .cells) parts (past n x) past-x) in
+        gate-value cells J S v zero-low Butnot (past n x) g (signalCell s) (solved-left cells J S v (y .cells) parts (past n x) past-x) in
         record {
           sel = rw (← (rp .sel), ← (rq .sel)) (sels-value m a b (c .cells) past-y);
           sent = join (rp .sent) (rq .sent);
@@ -326,7 +329,7 @@ module _ (cells : List Cell) (J : Signals) (S : State) (v : CellNo → Bool) (ze
           sent = rp .sent;
           want = rp .want;
           runs = trap-runs E H p (v g) (v r) (nets (a .codes)) (nets (trapRow (o .net) (a .codes))) (rp .sent) (rp .want) (rp .runs)
-              (or-value cells J S v zero-low m (code (a .codes) 0) (code (a .codes) 2) (solved-right cells J S v (a .cells) (o .cells) n h)) refl
+              (gate-value cells J S v zero-low Or m (code (a .codes) 0) (code (a .codes) 2) (solved-right cells J S v (a .cells) (o .cells) n h)) refl
               (λ j. ap v (trap-at (o .net) (a .codes) j));
           lists = rp .lists;
           own = rp .own;
@@ -362,13 +365,13 @@ module _ (cells : List Cell) (J : Signals) (S : State) (v : CellNo → Bool) (ze
         let s₁ : At m last = solved-right cells J S v (a .cells) last (past n x) s₀ in
         let s₂ : At m₁ (z .cells ++ o .cells) = solved-right cells J S v (y .cells) (z .cells ++ o .cells) m s₁ in
         let x-is : v (x .net) ≡ (v r && not (E s)) =
-        butnot-value cells J S v zero-low n r (signalCell s) (solved-left cells J S v (x .cells) (a .cells ++ last) n h) in
+        gate-value cells J S v zero-low Butnot n r (signalCell s) (solved-left cells J S v (x .cells) (a .cells ++ last) n h) in
         let y-is : v (y .net) ≡ (v r && v (a .sel)) =
-        and-value cells J S v zero-low m r (a .sel) (solved-left cells J S v (y .cells) (z .cells ++ o .cells) m s₁) in
+        gate-value cells J S v zero-low And m r (a .sel) (solved-left cells J S v (y .cells) (z .cells ++ o .cells) m s₁) in
         let z-is : v (z .net) ≡ (v (y .net) && v (signalCell s)) =
-        and-value cells J S v zero-low m₁ (y .net) (signalCell s) (solved-left cells J S v (z .cells) (o .cells) m₁ s₂) in
+        gate-value cells J S v zero-low And m₁ (y .net) (signalCell s) (solved-left cells J S v (z .cells) (o .cells) m₁ s₂) in
         let o-is : v (o .net) ≡ (v (code (a .codes) 0) || v (z .net)) =
-        or-value cells J S v zero-low m₂ (code (a .codes) 0) (z .net) (solved-right cells J S v (z .cells) (o .cells) m₁ s₂) in
+        gate-value cells J S v zero-low Or m₂ (code (a .codes) 0) (z .net) (solved-right cells J S v (z .cells) (o .cells) m₁ s₂) in
         record {
           sel = rp .sel;
           sent = rp .sent;

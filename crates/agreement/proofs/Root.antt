@@ -6,67 +6,46 @@ use mathlib.Core.List.{List, [], _∷_, _++_, append-assoc}
 use Prim.Native.Nat.{ℕ, zero, suc, _+_, _<_, _≤_}
 use native.Mathlib.Omega.{arith}
 use native.Mathlib.Decide.{decLt}
-use lib.ListN.{length, getD, length-append, getD-replicate, List·getD-eq-default}
+use lib.ListN.{length, length-append, getD-replicate, List·getD-eq-default}
 use lib.Seq.{getD-at}
 use Rattle.number.specs.Counts.{cellNo, ofCell, ofSignal, haltNo, stmtNo}
 use Rattle.number.specs.Number.{pick}
 use Rattle.number.specs.declared.CellNo.{CellNo}
 use Rattle.number.specs.declared.SignalNo.{SignalNo}
 use Rattle.number.specs.declared.HaltNo.{HaltNo}
+use Rattle.number.proofs.Bools.{taut, off}
+use Rattle.bits.specs.Bits.{boot}
+use Rattle.limits.specs.Limits.{maxSignals}
 use Rattle.sheet.specs.Stmt.{Stmt, haltCount, localCount}
 use Rattle.sheet.specs.Form.{Proper}
 use Rattle.sheet.proofs.Notions.{Numbered, inHalts, proper-numbered, proper-exits, within-halt}
 use Rattle.sets.specs.declared.Found.the-variants.{Clear}
 use Rattle.sets.specs.Faults.{instant}
-use Rattle.sets.proofs.Bools.{taut}
 use Rattle.rules.specs.Rules.{Signals, Halts, idle, start, active, resume}
-use Rattle.rules.specs.States.{State, boot, haltsOf, react, nextState, apart, fits, atRest}
+use Rattle.rules.specs.States.{State, haltsOf, react, nextState, apart, fits, atRest}
 use Rattle.rules.proofs.Codes.{no-instant}
 use Rattle.rules.proofs.Again.{booted-apart, rest-inactive, rest-apart}
 use Rattle.rules.proofs.Own.{react-keeps, kept-numbers}
-use Rattle.gates.specs.declared.Cell.{Cell}
-use Rattle.gates.specs.declared.Cell.the-variants.{Low, High, Input, Or, And, Butnot, Register}
-use Rattle.gates.specs.Cells.{low, high, signalCell}
-use Rattle.gates.specs.Values.{cellAt, registers, before, value, operands, nextOf}
+use Rattle.cells.specs.declared.Cell.{Cell}
+use Rattle.cells.specs.declared.Cell.the-variants.{Low, High, Gate, Register}
+use Rattle.cells.specs.declared.Gate.the-variants.{Butnot}
+use Rattle.cells.specs.Cells.{low, high, signalCell, cellAt}
+use Rattle.cells.specs.Values.{before, value, operands, nextOf}
+use Rattle.cells.proofs.Counting.{operands-length, operand-at}
 use Rattle.parts.specs.Equations.{Built, listOf}
 use Rattle.builder.specs.Netlist.{noLists, inputCells, signalCells, rootOf, netlist}
 use Rattle.builder.proofs.Ends.{length-inputs, length-signals}
 use Rattle.builder.proofs.Places.{built}
-use Rattle.builder.proofs.Format.{root, rootPins, boot-split, boot-register, netlist-registers}
-use Rattle.run.proofs.Counting.{operands-length}
+use Rattle.builder.proofs.Format.{root, boot-split, boot-register, netlist-registers, rootTakes}
 use Rattle.agreement.proofs.Sound.{NoTwice, Par, Sound}
 use Rattle.agreement.proofs.Runs.{live, choose, par-active, pick-emits, pick-halts}
 use Rattle.agreement.proofs.Nets.{Solved}
 use Rattle.agreement.proofs.Right.{Right}
 use Rattle.agreement.proofs.Structure.{root-right}
 
--- A register's operand is the bit of the next state that the register is.
-pub operand-at : (v : CellNo → Bool) (cells : List Cell) (k : ℕ) (y : CellNo) → getD cells k Low ≡ Register y
-    → nextOf v cells (before cells (cellNo k)) ≡ v y
-unfolding operands registers
-operand-at v [] k y e = let clash : _≡_ {A = ℕ} 0 1 = cc in absurd (omega arith)
-operand-at v (Low ∷ cs) zero y e = let clash : _≡_ {A = ℕ} 0 1 = cc in absurd (omega arith)
-operand-at v (High ∷ cs) zero y e = let clash : _≡_ {A = ℕ} 0 1 = cc in absurd (omega arith)
-operand-at v (Input s ∷ cs) zero y e = let clash : _≡_ {A = ℕ} 0 1 = cc in absurd (omega arith)
-operand-at v (Or a b ∷ cs) zero y e = let clash : _≡_ {A = ℕ} 0 1 = cc in absurd (omega arith)
-operand-at v (And a b ∷ cs) zero y e = let clash : _≡_ {A = ℕ} 0 1 = cc in absurd (omega arith)
-operand-at v (Butnot a b ∷ cs) zero y e = let clash : _≡_ {A = ℕ} 0 1 = cc in absurd (omega arith)
-operand-at v (Register a ∷ cs) zero y e = let same : a ≡ y = cc in ap v same
-operand-at v (Low ∷ cs) (suc k) y e = operand-at v cs k y e
-operand-at v (High ∷ cs) (suc k) y e = operand-at v cs k y e
-operand-at v (Input s ∷ cs) (suc k) y e = operand-at v cs k y e
-operand-at v (Or a b ∷ cs) (suc k) y e = operand-at v cs k y e
-operand-at v (And a b ∷ cs) (suc k) y e = operand-at v cs k y e
-operand-at v (Butnot a b ∷ cs) (suc k) y e = operand-at v cs k y e
-operand-at v (Register a ∷ cs) (suc k) y e = operand-at v cs k y e
-
-pub absent : (b : Bool) → (b ≡ true → ⊥) → b ≡ false
-absent true f = absurd (f refl)
-absent false f = refl
-
 -- past its halts a statement keeps nothing
 pub no-halt-past : (t : Stmt) → Numbered (haltNo 0) t → (E : Signals) (S : State) (h : ℕ) → haltCount t ≤ h → (react E S t) .halts (haltNo h) ≡ false
-no-halt-past t numbered E S h l = absent ((react E S t) .halts (haltNo h)) (λ on. past (own on))
+no-halt-past t numbered E S h l = off ((react E S t) .halts (haltNo h)) (λ on. past (own on))
   where
     own : (react E S t) .halts (haltNo h) ≡ true → (0 ≤ h) × (h < 0 + haltCount t)
     own on = kept-numbers (haltNo 0) t (react E S t) numbered (react-keeps E S t) (haltNo h) on
@@ -164,13 +143,13 @@ module _ {I O : ℕ} {t : Stmt} (proper : Proper I O t) (clear : instant (stmtNo
   abbrev bootCell : ℕ
   bootCell = 2 + I + U
 
-  from-boot : Solved cells J S v bootCell (Register high ∷ (Butnot high (cellNo bootCell) ∷ b .cells))
+  from-boot : Solved cells J S v bootCell (Register high ∷ (Gate Butnot high (cellNo bootCell) ∷ b .cells))
   from-boot =
       let front : List Cell = Low ∷ (High ∷ (inputCells 1 I ++ signalCells (b .lists) (1 + I) U)) in
       let long : length front ≡ bootCell =
       omega (arith, length-append (inputCells 1 I) (signalCells (b .lists) (1 + I) U), length-inputs 1 I, length-signals (b .lists) (1 + I) U) in
-      subst (λ (k : ℕ). Solved cells J S v k (Register high ∷ (Butnot high (cellNo bootCell) ∷ b .cells))) long
-      (last-solved cells J S v front (Register high ∷ (Butnot high (cellNo bootCell) ∷ b .cells)) (boot-split I U t) (λ x l. solves x (omega arith)))
+      subst (λ (k : ℕ). Solved cells J S v k (Register high ∷ (Gate Butnot high (cellNo bootCell) ∷ b .cells))) long
+      (last-solved cells J S v front (Register high ∷ (Gate Butnot high (cellNo bootCell) ∷ b .cells)) (boot-split I U t) (λ x l. solves x (omega arith)))
 
   go-is : v (cellNo (2 + n)) ≡ (true && not (S boot))
   unfolding Solved
@@ -180,13 +159,13 @@ module _ {I O : ℕ} {t : Stmt} (proper : Proper I O t) (clear : instant (stmtNo
       let booted : v (cellNo bootCell) ≡ S boot = from-boot .0 .1 ∙ ap S (boot-register I U t .1) in
       rw number (go ∙ rw (tick-on, booted))
 
-  body : Solved cells J S v (3 + n) ((built t (rootPins n)) .cells)
+  body : Solved cells J S v (3 + n) ((built t (rootTakes n)) .cells)
   unfolding Solved rootOf
   body =
       let number : suc (suc bootCell) ≡ 3 + n = omega arith in
       subst (λ (k : ℕ). Solved cells J S v k (b .cells)) number (from-boot .1 .1)
 
-  is-right : Right cells J S v zero-low t (cellNo (2 + n)) high low noLists (built t (rootPins n))
+  is-right : Right cells J S v zero-low t (cellNo (2 + n)) high low noLists (built t (rootTakes n))
   is-right = root-right I U t (proper-numbered proper) J S v zero-low body (root-sound proper clear once S fit)
 
   fresh : S boot ≡ false → active H t ≡ false
@@ -196,12 +175,12 @@ module _ {I O : ℕ} {t : Stmt} (proper : Proper I O t) (clear : instant (stmtNo
   ok = rw (go-is, tick-on) (not-both (S boot) (active H t) (Par E H t) fresh (par-active E H t))
 
   -- the lists show what is emitted
-  pub emitted : (s : SignalNo) → ofSignal s < 64 → v (listOf (b .lists) s) ≡ (react E S t) .emits s
+  pub emitted : (s : SignalNo) → ofSignal s < maxSignals → v (listOf (b .lists) s) ≡ (react E S t) .emits s
   unfolding react rootOf
   emitted s l =
       rw (
         is-right .lists s l,
-        getD-replicate 64 (ofSignal s) low low l,
+        getD-replicate maxSignals (ofSignal s) low low l,
         zero-low,
         is-right .runs .emits ok s,
         go-is,

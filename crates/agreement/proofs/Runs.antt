@@ -5,12 +5,12 @@ use Prim.Native.Nat.{ℕ, zero, suc}
 use Rattle.number.specs.declared.SignalNo.{SignalNo}
 use Rattle.number.specs.declared.HaltNo.{HaltNo}
 use Rattle.number.specs.Number.{pick}
+use Rattle.number.proofs.Bools.{taut}
 use Rattle.sheet.specs.declared.Unary.the-variants.{Loop, Watching, Trap, Signal}
 use Rattle.sheet.specs.declared.Binary.the-variants.{Sequence, Present, Parallel}
 use Rattle.sheet.specs.Stmt.{Stmt, leaf, one, two}
 use Rattle.sets.specs.Codes.{Codes, same, replaced}
 use Rattle.sets.specs.Static.{K}
-use Rattle.sets.proofs.Bools.{taut}
 use Rattle.rules.specs.Rules.{Signals, Halts, Outcome, thenOn, followed, start, active, resume}
 use Rattle.rules.proofs.Codes.{start-in-K}
 use Rattle.rules.proofs.Halting.{HaltsWithOne}

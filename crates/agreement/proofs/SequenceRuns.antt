@@ -5,11 +5,11 @@ use Prim.Native.Nat.{ℕ, zero, suc}
 use Rattle.number.specs.declared.SignalNo.{SignalNo}
 use Rattle.number.specs.declared.HaltNo.{HaltNo}
 use Rattle.number.specs.Number.{pick}
+use Rattle.number.proofs.Bools.{taut}
 use Rattle.sheet.specs.declared.Binary.the-variants.{Sequence}
 use Rattle.sheet.specs.Stmt.{Stmt, two}
 use Rattle.sets.specs.Codes.{Codes, same, replaced}
 use Rattle.sets.specs.Static.{K}
-use Rattle.sets.proofs.Bools.{taut}
 use Rattle.rules.specs.Rules.{Signals, Halts, Outcome, followed, start, active, resume}
 use Rattle.rules.proofs.Halting.{start-halting, resume-halting}
 use Rattle.agreement.proofs.Sound.{C, Par, Sound}

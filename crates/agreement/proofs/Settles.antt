@@ -16,13 +16,13 @@ use Rattle.sheet.specs.Stmt.{Stmt}
 use Rattle.sheet.specs.Read.{Sheet, only}
 use Rattle.rules.specs.Rules.{Signals}
 use Rattle.rules.specs.States.{State, tick, Event, fits}
-use Rattle.gates.specs.declared.Cell.{Cell}
-use Rattle.gates.specs.Cells.{low, signalCell}
-use Rattle.gates.specs.Values.{cellAt, before}
+use Rattle.cells.specs.declared.Cell.{Cell}
+use Rattle.cells.specs.Cells.{low, signalCell, cellAt}
+use Rattle.cells.specs.Values.{before}
+use Rattle.cells.proofs.Needing.{value-same}
 use Rattle.builder.specs.Netlist.{sheetNetlist}
 use Rattle.run.proofs.Rank.{Ranked, rank, ranked}
-use Rattle.run.proofs.One.{value-same}
-use Rattle.agreement.specs.Demand.{others, signalsOf, Reaction}
+use Rattle.agreement.specs.Demand.{others, signalsOf, WholeReaction}
 use Rattle.agreement.specs.Rounds.{renewed, rounds, ReachIn}
 use Rattle.agreement.proofs.Admitted.{Admitted}
 use Rattle.agreement.proofs.Made.{past-signals, given-signals}
@@ -84,7 +84,7 @@ count-every a zero = refl
 count-every a (suc k) = let rest : count every (suc a) k ≡ k = count-every (suc a) k in omega arith
 
 module _ (w : Sheet) (ok : Admitted w) (J : Signals) (event : Event (w .inputs) J) (S : State) (fit : fits S (w .root) ≡ true)
-    (reaction : Reaction w J S) where
+    (reaction : WholeReaction w J S) where
   abbrev t : Stmt
   t = w .root
 

@@ -4,16 +4,16 @@ use mathlib.Core.Bool.{Bool, true, false, not, _&&_, _||_}
 use Prim.Native.Nat.{ℕ}
 use Rattle.number.specs.declared.HaltNo.{HaltNo}
 use Rattle.number.specs.declared.SignalNo.{SignalNo}
+use Rattle.number.proofs.Bools.{taut}
+use Rattle.sheet.specs.Form.{haltsOn}
 use Rattle.sheet.specs.declared.Unary.{Unary}
 use Rattle.sheet.specs.declared.Unary.the-variants.{Loop, Watching, Trap, Signal}
 use Rattle.sheet.specs.declared.Binary.{Binary}
 use Rattle.sheet.specs.declared.Binary.the-variants.{Sequence, Present, Parallel}
 use Rattle.sheet.specs.Stmt.{Stmt, leaf, one, two, haltCount}
-use Rattle.sheet.specs.Rows.{haltsOn}
 use Rattle.sheet.proofs.Notions.{Numbered, Exits, trapsIn}
 use Rattle.sets.specs.Codes.{Codes, empty, join, when, replaced, less0, caughtCodes}
 use Rattle.sets.specs.Static.{K, R}
-use Rattle.sets.proofs.Bools.{taut}
 use Rattle.rules.specs.Rules.{Signals, Halts, active}
 use Rattle.rules.specs.States.{apart}
 use Rattle.rules.proofs.Codes.{NoInstant, sequence-left, sequence-right, parallel-left, parallel-right}

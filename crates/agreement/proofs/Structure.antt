@@ -17,14 +17,14 @@ use Rattle.sheet.proofs.Notions.{Numbered}
 use Rattle.rules.specs.Rules.{Signals, Halts}
 use Rattle.rules.specs.States.{State, haltsOf}
 use Rattle.rules.proofs.Again.{Disjoint, sides-disjoint}
-use Rattle.gates.specs.declared.Cell.{Cell}
-use Rattle.gates.specs.Cells.{low}
+use Rattle.cells.specs.declared.Cell.{Cell}
+use Rattle.cells.specs.Cells.{low}
 use Rattle.parts.specs.Equations.{Built, given, build}
-use Rattle.builder.specs.Netlist.{netlist}
 use Rattle.parts.specs.Contract.{Opening, closeOne, openTwo, closeTwo, goOf}
 use Rattle.parts.proofs.Parts.{build-one, build-two}
-use Rattle.builder.proofs.Places.{Pins, built, onePins, leftPins, rightPins}
-use Rattle.builder.proofs.Format.{rootPins, halt-register}
+use Rattle.builder.specs.Netlist.{netlist}
+use Rattle.builder.proofs.Places.{built, Takes, oneTakes, leftTakes, rightTakes}
+use Rattle.builder.proofs.Format.{halt-register, rootTakes}
 use Rattle.agreement.proofs.Sound.{Sound, sound-one, sound-left, sound-right}
 use Rattle.agreement.proofs.Nets.{Solved}
 use Rattle.agreement.proofs.Deeper.{Inside, whole, inside-one, inside-left, inside-right, part-solved, lists-length}
@@ -37,23 +37,23 @@ unfolding Numbered
 disjoint H b p q w = sides-disjoint (w .first) p q (w .numbered .0) (w .numbered .1)
 
 module _ (I U : ℕ) (root : Stmt) (numbered : Numbered (haltNo 0) root) (J : Signals) (S : State) (v : CellNo → Bool) (zero-low : v low ≡ false)
-    (solved : Solved (netlist I U root) J S v ((rootPins (1 + I + U)) .first) ((built root (rootPins (1 + I + U))) .cells)) where
+    (solved : Solved (netlist I U root) J S v ((rootTakes (1 + I + U)) .first) ((built root (rootTakes (1 + I + U))) .cells)) where
   abbrev cells : List Cell
   cells = netlist I U root
 
   abbrev H : Halts
   H = haltsOf S
 
-  abbrev top : Pins
-  top = rootPins (1 + I + U)
+  abbrev top : Takes
+  top = rootTakes (1 + I + U)
 
-  abbrev IsRight : Stmt → Pins → Built → Type 0
+  abbrev IsRight : Stmt → Takes → Built → Type 0
   IsRight t w b = Right cells J S v zero-low t (w .go) (w .res) (w .kill) (w .lists) b
 
   abbrev Holds : Stmt → Type 0
-  Holds t = (w : Pins) → Inside root top t w → Sound H t → IsRight t w (built t w)
+  Holds t = (w : Takes) → Inside root top t w → Sound H t → IsRight t w (built t w)
 
-  own-cells : (t : Stmt) (w : Pins) → Inside root top t w → Solved cells J S v (w .first) ((built t w) .cells)
+  own-cells : (t : Stmt) (w : Takes) → Inside root top t w → Solved cells J S v (w .first) ((built t w) .cells)
   own-cells t w s = part-solved cells J S v solved s
 
   leaf-holds : (l : Leaf) → Holds (leaf l)
@@ -67,7 +67,7 @@ module _ (I U : ℕ) (root : Stmt) (numbered : Numbered (haltNo 0) root) (J : Si
       (own-cells (leaf (Halt x)) w s)
 
   -- a statement with one part, from the part as it is built
-  one-closed : (u : Unary) (p : Stmt) (w : Pins) (a : Built) → Sound H (one u p) → IsRight p (onePins u w) a
+  one-closed : (u : Unary) (p : Stmt) (w : Takes) (a : Built) → Sound H (one u p) → IsRight p (oneTakes u w) a
       → Solved cells J S v (w .first) ((closeOne u (w .first) (w .go) (w .res) a) .cells) → IsRight (one u p) w (closeOne u (w .first) (w .go) (w .res) a)
   one-closed Loop p w a k rp h = loop-right cells J S v zero-low p (w .first) (w .go) (w .res) (w .kill) (w .lists) a k rp h
   one-closed (Watching s) p w a k rp h = watching-right cells J S v zero-low p (w .first) (w .go) (w .res) (w .kill) (w .lists) a s rp h
@@ -76,16 +76,16 @@ module _ (I U : ℕ) (root : Stmt) (numbered : Numbered (haltNo 0) root) (J : Si
 
   one-holds : (u : Unary) (p : Stmt) → Holds p → Holds (one u p)
   one-holds u p ip w s k =
-      let a : Built = built p (onePins u w) in
+      let a : Built = built p (oneTakes u w) in
       let e : built (one u p) w ≡ closeOne u (w .first) (w .go) (w .res) a = build-one u p (w .first) (w .go) (w .res) (w .kill) (w .lists) in
       subst⁻¹ (IsRight (one u p) w) e
-      (one-closed u p w a k (ip (onePins u w) (inside-one s) (sound-one H u p k))
+      (one-closed u p w a k (ip (oneTakes u w) (inside-one s) (sound-one H u p k))
       (subst (λ (b : Built). Solved cells J S v (w .first) (b .cells)) e (own-cells (one u p) w s)))
 
   -- a statement with two parts, likewise
-  two-closed : (b : Binary) (p q : Stmt) (w : Pins) (x y : Built) → let o : Opening = openTwo b (w .first) (w .go) (w .res) (w .kill) in
+  two-closed : (b : Binary) (p q : Stmt) (w : Takes) (x y : Built) → let o : Opening = openTwo b (w .first) (w .go) (w .res) (w .kill) in
       let t : Built = closeTwo b (given (two b p q)) (w .first) (w .go) (w .kill) x y in
-      length (x .lists) ≡ length (w .lists) → Sound H (two b p q) → IsRight p (leftPins b w) x
+      length (x .lists) ≡ length (w .lists) → Sound H (two b p q) → IsRight p (leftTakes b w) x
       → Right cells J S v zero-low q (goOf b (o .other) (x .codes)) (o .res) (o .kill) (x .lists) y
       → Solved cells J S v (w .first) (t .cells) → IsRight (two b p q) w t
   two-closed Sequence p q w x y as-many k rp rq h =
@@ -97,14 +97,14 @@ module _ (I U : ℕ) (root : Stmt) (numbered : Numbered (haltNo 0) root) (J : Si
 
   two-holds : (b : Binary) (p q : Stmt) → Holds p → Holds q → Holds (two b p q)
   two-holds b p q ip iq w s k =
-      let l : Pins = leftPins b w in
+      let l : Takes = leftTakes b w in
       let x : Built = built p l in
-      let y : Built = built q (rightPins b p w) in
+      let y : Built = built q (rightTakes b p w) in
       let t : Built = closeTwo b (given (two b p q)) (w .first) (w .go) (w .kill) x y in
       let e : built (two b p q) w ≡ t = build-two b p q (w .first) (w .go) (w .res) (w .kill) (w .lists) in
       subst⁻¹ (IsRight (two b p q) w) e
       (two-closed b p q w x y (lists-length p (l .first) (l .go) (l .res) (l .kill) (l .lists)) k
-      (ip l (inside-left s) (sound-left H b p q k)) (iq (rightPins b p w) (inside-right s) (sound-right H b p q k))
+      (ip l (inside-left s) (sound-left H b p q k)) (iq (rightTakes b p w) (inside-right s) (sound-right H b p q k))
       (subst (λ (z : Built). Solved cells J S v (w .first) (z .cells)) e (own-cells (two b p q) w s)))
 
   parts-right : (t : Stmt) → Holds t

@@ -14,11 +14,11 @@ use Rattle.sheet.specs.Read.{Sheet}
 use Rattle.rules.specs.Rules.{Signals}
 use Rattle.rules.specs.States.{State, fresh, react, nextState, Event, fits}
 use Rattle.rules.proofs.Again.{fits-fresh}
-use Rattle.gates.specs.declared.Cell.{Cell}
-use Rattle.gates.specs.Values.{nextOf}
+use Rattle.cells.specs.declared.Cell.{Cell}
+use Rattle.cells.specs.Values.{nextOf}
 use Rattle.builder.specs.Netlist.{sheetNetlist}
 use Rattle.compiler.specs.Check.{Accepted}
-use Rattle.agreement.specs.Demand.{others, Reaction, RuleRun, NetRun, Shows, Events, WholeRun}
+use Rattle.agreement.specs.Demand.{others, WholeReaction, RuleRun, NetRun, Shows, Events, WholeRun}
 use Rattle.agreement.specs.Rounds.{ReachIn}
 use Rattle.agreement.proofs.Admitted.{admitted}
 use Rattle.agreement.proofs.Agreeing.{reaction-of}
@@ -26,7 +26,7 @@ use Rattle.agreement.proofs.Settles.{settles-at}
 
 module _ {bytes : List ℕ} {w : Sheet} (ok : Accepted bytes w) where
   -- one reaction: exactly one set agrees, the netlist's one solution shows it and holds the rules' next state, which fits again
-  pub reaction : (J : Signals) (S : State) → fits S (w .root) ≡ true → Event (w .inputs) J → Reaction w J S
+  pub reaction : (J : Signals) (S : State) → fits S (w .root) ≡ true → Event (w .inputs) J → WholeReaction w J S
   reaction J S fit event = reaction-of w (admitted ok) J event S fit
 
   -- applying the rules round by round reaches that set in at most as many rounds as there are outputs and locals, and stays there
@@ -35,7 +35,7 @@ module _ {bytes : List ℕ} {w : Sheet} (ok : Accepted bytes w) where
   settles J S fit event = settles-at w (admitted ok) J event S fit (reaction J S fit event)
 
 -- One clock more at the head of a run.
-module _ (w : Sheet) (J : Signals) (S : State) (Js : List Signals) (r : Reaction w J S)
+module _ (w : Sheet) (J : Signals) (S : State) (Js : List Signals) (r : WholeReaction w J S)
     (rest : WholeRun w (nextState (react (r .present) S (w .root))) Js) where
   abbrev t : Stmt
   t = w .root
@@ -94,7 +94,7 @@ module _ {bytes : List ℕ} {w : Sheet} (ok : Accepted bytes w) where
   unfolding Events
   run [] S fit events = run-none w S
   run (J ∷ Js) S fit events =
-      let r : Reaction w J S = reaction ok J S fit (events .0) in
+      let r : WholeReaction w J S = reaction ok J S fit (events .0) in
       run-more w J S Js r (run Js (nextState (react (r .present) S (w .root))) (r .again) (events .1))
 
   -- .. and from fresh

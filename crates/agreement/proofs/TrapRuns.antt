@@ -3,11 +3,11 @@ use mathlib.Core.Path.{_≡_, refl}
 use mathlib.Core.Bool.{Bool, false, not, _&&_, _||_}
 use Prim.Native.Nat.{ℕ, zero, suc}
 use Rattle.number.specs.declared.SignalNo.{SignalNo}
+use Rattle.number.proofs.Bools.{taut}
 use Rattle.sheet.specs.declared.Unary.the-variants.{Trap, Signal}
 use Rattle.sheet.specs.Stmt.{Stmt, one}
 use Rattle.sets.specs.Codes.{Codes, same, caught, caughtCodes}
 use Rattle.sets.specs.Static.{K}
-use Rattle.sets.proofs.Bools.{taut}
 use Rattle.rules.specs.Rules.{Signals, Halts, start, active, resume}
 use Rattle.agreement.proofs.Sound.{C, Par}
 use Rattle.agreement.proofs.Runs.{live, Runs}

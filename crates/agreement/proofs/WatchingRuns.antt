@@ -5,11 +5,11 @@ use Prim.Native.Nat.{ℕ, zero, suc}
 use Rattle.number.specs.declared.SignalNo.{SignalNo}
 use Rattle.number.specs.declared.HaltNo.{HaltNo}
 use Rattle.number.specs.Number.{pick}
+use Rattle.number.proofs.Bools.{taut}
 use Rattle.sheet.specs.declared.Unary.the-variants.{Watching}
 use Rattle.sheet.specs.Stmt.{Stmt, one}
 use Rattle.sets.specs.Codes.{Codes, same}
 use Rattle.sets.specs.Static.{K}
-use Rattle.sets.proofs.Bools.{taut}
 use Rattle.rules.specs.Rules.{Signals, Halts, Outcome, idle, start, active, resume}
 use Rattle.agreement.proofs.Sound.{C, Par}
 use Rattle.agreement.proofs.Runs.{live, Runs, choose, pick-code, pick-emits, pick-halts}

@@ -11,9 +11,9 @@ use Rattle.sheet.specs.Stmt.{Stmt, localCount}
 use Rattle.sheet.specs.Read.{Sheet}
 use Rattle.rules.specs.Rules.{Signals}
 use Rattle.rules.specs.States.{State, react, nextState, Event, Agrees, fits}
-use Rattle.gates.specs.declared.Cell.{Cell}
-use Rattle.gates.specs.Cells.{signalCell}
-use Rattle.gates.specs.Values.{Solves, nextOf}
+use Rattle.cells.specs.declared.Cell.{Cell}
+use Rattle.cells.specs.Cells.{signalCell}
+use Rattle.cells.specs.Values.{Solves, nextOf}
 use Rattle.builder.specs.Netlist.{sheetNetlist}
 
 -- the sheet's outputs and locals, which are the signals that it may emit
@@ -25,7 +25,7 @@ abbrev pub signalsOf : Sheet → ℕ
 signalsOf w = 1 + w .inputs + others w
 
 -- What is so of one reaction of the sheet w to the event J in the state S.
-pub record Reaction (w : Sheet) (J : Signals) (S : State) : Type 0 where
+pub record WholeReaction (w : Sheet) (J : Signals) (S : State) : Type 0 where
   -- exactly one set of signals agrees with the rules
   pub present : Signals
   pub agrees : Agrees J S present (w .root)

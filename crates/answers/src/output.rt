@@ -1,5 +1,6 @@
 // What is printed: a line for each answer, one blank between its words.
 use krankovel::Answer;
+use krankovel::Bits;
 use krankovel::Reaction;
 use krankovel::Reading;
 use libc::STDOUT_FILENO;
@@ -17,10 +18,10 @@ fn then_number(n: u64) {
     number(n);
 }
 
-// In hex, without leading zeros.
-fn then_bits(w: u64) {
+// The lowest word of a set in hex, without leading zeros.
+fn then_bits(w: Bits) {
     text(b" ");
-    io::print_hex(STDOUT_FILENO, w, 1);
+    io::print_hex(STDOUT_FILENO, w.low_word(), 1);
 }
 
 fn end_line() {

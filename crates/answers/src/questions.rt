@@ -2,6 +2,7 @@
 use crate::output;
 use crate::words;
 use digits::Value;
+use krankovel::Bits;
 ghost use Rattle.io.specs.Counts.{Counts};
 
 // rest STATE
@@ -10,7 +11,7 @@ fn answer_rest(state: &[u8]) {
         output::bad_line();
         return;
     };
-    output::yes_or_no(krankovel::rest(s));
+    output::yes_or_no(krankovel::rest(Bits::of_word(s)));
 }
 
 // read HEX, check HEX, file HEX
@@ -36,7 +37,7 @@ fn answer_fits(bytes: &[u8], state: &[u8]) {
         output::bad_line();
         return;
     };
-    output::answer(krankovel::fits(bytes, s));
+    output::answer(krankovel::fits(bytes, Bits::of_word(s)));
 }
 
 // n bytes, or all that there is room for.
@@ -80,12 +81,14 @@ fn answer_reaction(word: &[u8], bytes: &[u8], state: &[u8], event: &[u8]) {
         output::bad_line();
         return;
     };
+    let state = Bits::of_word(s);
+    let event = Bits::of_word(e);
     if check::same(word, b"react") {
-        output::reaction(krankovel::react(bytes, s, e));
+        output::reaction(krankovel::react(bytes, state, event));
         return;
     }
     if check::same(word, b"reactfile") {
-        output::reaction(krankovel::react_file(bytes, s, e));
+        output::reaction(krankovel::react_file(bytes, state, event));
         return;
     }
     output::bad_line();

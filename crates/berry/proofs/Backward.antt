@@ -8,20 +8,20 @@ use Rattle.number.specs.declared.SignalNo.{SignalNo}
 use Rattle.number.specs.declared.HaltNo.{HaltNo}
 use Rattle.number.specs.Counts.{haltNo}
 use Rattle.number.specs.Number.{pick}
+use Rattle.number.proofs.Bools.{taut, or-left, or-right}
 use Rattle.sheet.specs.declared.Leaf.the-variants.{Nothing, Halt, Emit, Exit}
 use Rattle.sheet.specs.declared.Unary.the-variants.{Loop, Watching, Trap, Signal}
 use Rattle.sheet.specs.declared.Binary.the-variants.{Sequence, Present, Parallel}
 use Rattle.sheet.specs.Stmt.{Stmt, leaf, one, two}
 use Rattle.sheet.specs.Read.{only}
 use Rattle.sets.specs.Codes.{same, empty, join, larger, caught}
-use Rattle.sets.proofs.Bools.{taut}
 use Rattle.rules.specs.Rules.{Signals, Halts, Outcome, idle, onlyHalt, thenOn, kept, start, active, resume}
 use Rattle.rules.specs.States.{apart}
-use Rattle.rules.proofs.Codes.{NoInstant, or-left, or-right, sequence-left, sequence-right, parallel-left, parallel-right}
+use Rattle.rules.proofs.Codes.{NoInstant, sequence-left, sequence-right, parallel-left, parallel-right}
 use Rattle.rules.proofs.Again.{swap, own-both, only-right}
 use Rattle.berry.specs.Behaviour.{Step, nothing-rule, halt-rule, emit-rule, sequence-on, sequence-stays, loop-rule, present-then, present-else}
-use Rattle.berry.specs.Behaviour.{watching-rule, parallel-rule, trap-ends, trap-stays, exit-rule, signal-present, signal-absent}
-use Rattle.berry.specs.Behaviour.{without, presentElse, unlessEnded, localsOf}
+use Rattle.berry.specs.Behaviour.{watching-rule, parallel-rule, trap-ends, trap-stays, exit-rule, signal-present, signal-absent, without, presentElse}
+use Rattle.berry.specs.Behaviour.{unlessEnded, localsOf}
 use Rattle.berry.specs.Haltsets.{recovering}
 use Rattle.berry.proofs.Scopes.{inLocals, Bound, only-self, only-in, only-out, undeclared}
 use Rattle.berry.proofs.Tests.{all-in, more-in}

@@ -9,16 +9,17 @@ use borrow.Author.Tests.{eq-eqb}
 use Rattle.number.specs.declared.HaltNo.{HaltNo}
 use Rattle.number.specs.Counts.{haltNo, ofHalt}
 use Rattle.number.specs.Number.{pick}
+use Rattle.number.proofs.Bools.{off, and-left}
+use Rattle.bits.specs.Bits.{boot, haltBit, noBits}
+use Rattle.bits.proofs.NoBits.{bit-off}
 use Rattle.sheet.specs.Stmt.{Stmt, haltCount}
 use Rattle.sheet.proofs.Notions.{Numbered, inHalts, within-halt}
 use Rattle.sets.specs.Codes.{empty}
 use Rattle.rules.specs.Rules.{Halts, onlyHalt, active}
-use Rattle.rules.specs.States.{State, boot, haltBit, haltsOf, noBits, apart, fits}
-use Rattle.rules.proofs.NoBits.{bit-off}
+use Rattle.rules.specs.States.{State, haltsOf, apart, fits}
 use Rattle.rules.proofs.Again.{none}
 use Rattle.berry.specs.Modules.{trailing, haltsetOf, Alike}
 use Rattle.berry.proofs.Reactions.{added, some-active}
-use Rattle.berry.proofs.Tests.{not-true, and-first}
 
 module _ (t : Stmt) (n : Numbered (haltNo 0) t) where
   -- the three kinds of state, by boot and by whether a halt is set
@@ -43,12 +44,12 @@ module _ (t : Stmt) (n : Numbered (haltNo 0) t) where
     ended-halts on ended h l = go (decLt (ofHalt h) (haltCount t))
       where
         past : noBits (63 - haltCount t) (1 + haltCount t) S ≡ true
-        past = and-first (noBits (63 - haltCount t) (1 + haltCount t) S) (apart (haltsOf S) t) (rw on at f)
+        past = and-left (noBits (63 - haltCount t) (1 + haltCount t) S) (apart (haltsOf S) t) (rw on at f)
 
         go : Dec (ofHalt h < haltCount t) → haltsOf S h ≡ false
         go (yes own) =
             let inside : inHalts t h ≡ true = within-halt (haltNo 0) t n h (omega arith) (omega arith) in
-            not-true (haltsOf S h) (λ set. true≢false (sym (some-active (haltsOf S) t h inside set) ∙ ended))
+            off (haltsOf S h) (λ set. true≢false (sym (some-active (haltsOf S) t h inside set) ∙ ended))
         go (no other) = bit-off (63 - haltCount t) (1 + haltCount t) S past (haltBit h) (omega arith) (omega arith)
 
   pub told-by-haltset : (S S′ : State) → fits S t ≡ true → fits S′ t ≡ true → haltsetOf S t ≡ haltsetOf S′ t → Alike S S′

@@ -15,7 +15,7 @@ use Rattle.sets.specs.Faults.{instant, twice}
 use Rattle.rules.specs.Rules.{Signals, Halts, Outcome}
 use Rattle.rules.specs.States.{State, fresh, react, nextState, Event, Agrees, fits}
 use Rattle.rules.proofs.Again.{none, fits-again, fits-fresh}
-use Rattle.agreement.specs.Demand.{Reaction}
+use Rattle.agreement.specs.Demand.{WholeReaction}
 use Rattle.berry.specs.Haltsets.{recovered}
 use Rattle.berry.specs.Modules.{Transition, Move, Sole, Derivative, itself, onward, Correct, body, haltsetOf, moveOn, Faithful, FromHaltset}
 use Rattle.berry.proofs.Faithfulness.{faithful}
@@ -23,7 +23,7 @@ use Rattle.berry.proofs.Finite.{from-haltset}
 
 module _ (w : Sheet) (proper : Proper (w .inputs) (w .outputs) (w .root)) (clear : instant (stmtNo 0) (w .root) ≡ Clear)
     (once : twice (stmtNo 0) (w .root) ≡ Clear)
-    (reaction : (J : Signals) (S : State) → fits S (w .root) ≡ true → Event (w .inputs) J → Reaction w J S) where
+    (reaction : (J : Signals) (S : State) → fits S (w .root) ≡ true → Event (w .inputs) J → WholeReaction w J S) where
   abbrev t : Stmt
   t = w .root
 

@@ -5,6 +5,7 @@ use Rattle.number.specs.declared.SignalNo.{SignalNo}
 use Rattle.number.specs.declared.HaltNo.{HaltNo}
 use Rattle.number.specs.Counts.{haltNo}
 use Rattle.number.specs.Number.{pick}
+use Rattle.bits.specs.Bits.{boot}
 use Rattle.sheet.specs.declared.Leaf.the-variants.{Nothing, Halt, Emit, Exit}
 use Rattle.sheet.specs.declared.Unary.the-variants.{Loop, Watching, Trap, Signal}
 use Rattle.sheet.specs.declared.Binary.the-variants.{Sequence, Present, Parallel}
@@ -12,7 +13,7 @@ use Rattle.sheet.specs.Stmt.{Stmt, leaf, one, two}
 use Rattle.sheet.specs.Read.{only}
 use Rattle.sets.specs.Codes.{same, empty}
 use Rattle.rules.specs.Rules.{Signals, Halts, Outcome, idle, onlyHalt, followed, beside, trapped, start, active, resume}
-use Rattle.rules.specs.States.{State, boot, haltsOf}
+use Rattle.rules.specs.States.{State, haltsOf}
 use Rattle.berry.specs.Behaviour.{presentElse, unlessEnded}
 use Rattle.berry.proofs.Lives.{startLives, resumeLives}
 

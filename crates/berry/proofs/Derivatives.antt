@@ -10,18 +10,18 @@ use Rattle.number.specs.declared.SignalNo.{SignalNo}
 use Rattle.number.specs.declared.HaltNo.{HaltNo}
 use Rattle.number.specs.Counts.{ofHalt, haltNo}
 use Rattle.number.specs.Number.{pick}
+use Rattle.number.proofs.Bools.{or-left, or-right}
+use Rattle.sheet.specs.Form.{haltsOn}
 use Rattle.sheet.specs.declared.Leaf.the-variants.{Nothing, Halt, Emit, Exit}
 use Rattle.sheet.specs.declared.Unary.{Unary}
 use Rattle.sheet.specs.declared.Unary.the-variants.{Loop, Watching, Trap, Signal}
 use Rattle.sheet.specs.declared.Binary.the-variants.{Sequence, Present, Parallel}
 use Rattle.sheet.specs.Stmt.{Stmt, leaf, one, two, haltCount}
-use Rattle.sheet.specs.Rows.{haltsOn}
 use Rattle.sheet.proofs.Notions.{Numbered, Exits, inHalts}
 use Rattle.sets.specs.Codes.{empty, join, larger}
 use Rattle.rules.specs.Rules.{Signals, Halts, onlyHalt, kept, active}
-use Rattle.rules.proofs.Codes.{or-left, or-right}
-use Rattle.rules.proofs.Again.{On, on-left, on-right, none, Disjoint, sides-disjoint, off-side, swap, own-left, own-right, own-both}
-use Rattle.rules.proofs.Again.{drop-left, drop-right, only-right}
+use Rattle.rules.proofs.Again.{On, on-left, on-right, none, Disjoint, sides-disjoint, off-side, swap, own-left, own-right, own-both, drop-left, drop-right}
+use Rattle.rules.proofs.Again.{only-right}
 use Rattle.berry.specs.Behaviour.{Step, nothing-rule, halt-rule, emit-rule, sequence-on, sequence-stays, loop-rule, present-then, present-else}
 use Rattle.berry.specs.Behaviour.{watching-rule, parallel-rule, trap-ends, trap-stays, exit-rule, signal-present, signal-absent, presentElse, unlessEnded}
 use Rattle.berry.specs.Haltsets.{recovering, recovered}

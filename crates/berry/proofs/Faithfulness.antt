@@ -8,13 +8,13 @@ use borrow.Author.Tests.{ltb-true, lt-ltb, ne-eqb}
 use Rattle.number.specs.declared.SignalNo.{SignalNo}
 use Rattle.number.specs.Counts.{signalNo, ofSignal, haltNo, stmtNo}
 use Rattle.number.specs.Number.{pick}
+use Rattle.number.proofs.Bools.{taut}
 use Rattle.sheet.specs.Stmt.{Stmt, haltCount}
 use Rattle.sheet.specs.Read.{Sheet, only, rootAround}
 use Rattle.sheet.specs.Form.{Proper}
 use Rattle.sheet.proofs.Notions.{Numbered, Exits, proper-numbered, proper-exits}
 use Rattle.sets.specs.declared.Found.the-variants.{Clear}
 use Rattle.sets.specs.Faults.{instant, twice}
-use Rattle.sets.proofs.Bools.{taut}
 use Rattle.rules.specs.Rules.{Signals, Halts, Outcome, followed}
 use Rattle.rules.specs.States.{State, haltsOf, tick, react, nextState, Event, Agrees, fits}
 use Rattle.rules.proofs.Codes.{NoInstant, no-instant}

@@ -7,6 +7,7 @@ use native.Mathlib.Omega.{arith}
 use Rattle.number.specs.declared.SignalNo.{SignalNo}
 use Rattle.number.specs.Counts.{haltNo}
 use Rattle.number.specs.Number.{pick}
+use Rattle.number.proofs.Bools.{taut, or-left, or-right, off}
 use Rattle.sheet.specs.declared.Leaf.the-variants.{Nothing, Halt, Emit, Exit}
 use Rattle.sheet.specs.declared.Unary.the-variants.{Loop, Watching, Trap, Signal}
 use Rattle.sheet.specs.declared.Binary.the-variants.{Sequence, Present, Parallel}
@@ -15,18 +16,16 @@ use Rattle.sheet.specs.Read.{only}
 use Rattle.sheet.proofs.Notions.{Exits}
 use Rattle.sets.specs.Codes.{same, empty, join, caught}
 use Rattle.sets.specs.Static.{K}
-use Rattle.sets.proofs.Bools.{taut}
 use Rattle.rules.specs.Rules.{Signals, Halts, Outcome, idle, thenOn, followed, beside, trapped, start, active, resume}
 use Rattle.rules.specs.States.{apart}
-use Rattle.rules.proofs.Codes.{NoInstant, start-in-K, or-left, or-right, sequence-left, sequence-right, parallel-left, parallel-right}
+use Rattle.rules.proofs.Codes.{NoInstant, start-in-K, sequence-left, sequence-right, parallel-left, parallel-right}
 use Rattle.rules.proofs.Halting.{HaltsWithOne, start-halting, resume-halting}
 use Rattle.rules.proofs.Again.{only-right}
 use Rattle.berry.specs.Behaviour.{Step, nothing-rule, halt-rule, emit-rule, sequence-on, sequence-stays, loop-rule, present-then, present-else}
-use Rattle.berry.specs.Behaviour.{watching-rule, parallel-rule, trap-ends, trap-stays, exit-rule, signal-present, signal-absent}
-use Rattle.berry.specs.Behaviour.{without, presentElse, unlessEnded}
+use Rattle.berry.specs.Behaviour.{watching-rule, parallel-rule, trap-ends, trap-stays, exit-rule, signal-present, signal-absent, without, presentElse}
+use Rattle.berry.specs.Behaviour.{unlessEnded}
 use Rattle.berry.specs.Haltsets.{recovering}
 use Rattle.berry.proofs.Scopes.{Bound, only-self, only-in, only-out, same-signal}
-use Rattle.berry.proofs.Tests.{not-true}
 use Rattle.berry.proofs.Restarts.{NoRestart}
 use Rattle.berry.proofs.Lives.{startLives, resumeLives, lives-once}
 use Rattle.berry.proofs.Runs.{Separate, Closed, separate, start-run, resume-run, side-run, followed-first, followed-second, beside-first, beside-second}
@@ -41,7 +40,7 @@ pub record Gives (X D : Signals) (x : Stmt) (o : Outcome) : Type 0 where
   pub step : Step D x (seen X (o .emits)) (o .code) (o .halts) becomes
 
 no-halts : (a : Outcome) → HaltsWithOne a → (a .code ≡ 1 → ⊥) → a .halts ≡ empty
-no-halts a quiet other = fun-ext (λ h. not-true (a .halts h) (λ e. other (quiet .with-one h e)))
+no-halts a quiet other = fun-ext (λ h. off (a .halts h) (λ e. other (quiet .with-one h e)))
 
 positive : (k : ℕ) → (k ≡ 0 → ⊥) → 0 < k
 positive zero f = absurd (f refl)

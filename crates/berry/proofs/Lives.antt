@@ -4,6 +4,7 @@ use mathlib.Core.Bool.{Bool, true, false, not, _&&_, _||_, true≢false, false�
 use Prim.Native.Nat.{ℕ, zero, suc}
 use Rattle.number.specs.declared.SignalNo.{SignalNo}
 use Rattle.number.specs.Number.{pick}
+use Rattle.number.proofs.Bools.{taut, or-left, or-right, or-cases, both-off, and-left, and-right}
 use Rattle.sheet.specs.declared.Leaf.the-variants.{Nothing, Halt, Emit, Exit}
 use Rattle.sheet.specs.declared.Unary.the-variants.{Loop, Watching, Trap, Signal}
 use Rattle.sheet.specs.declared.Binary.the-variants.{Sequence, Present, Parallel}
@@ -11,15 +12,13 @@ use Rattle.sheet.specs.Stmt.{Stmt, leaf, one, two}
 use Rattle.sheet.specs.Read.{only}
 use Rattle.sets.specs.Codes.{Codes, same, empty, join, when, replaced, less0, caught, caughtCodes}
 use Rattle.sets.specs.Static.{K, R}
-use Rattle.sets.proofs.Bools.{taut}
 use Rattle.rules.specs.Rules.{Signals, Halts, Outcome, idle, thenOn, followed, start, active, resume}
 use Rattle.rules.specs.States.{apart}
-use Rattle.rules.proofs.Codes.{NoInstant, start-in-K, resume-in-R, replaced-in, caught-in, less0-in, or-left, or-right, sequence-left, sequence-right}
-use Rattle.rules.proofs.Own.{or-cases}
+use Rattle.rules.proofs.Codes.{NoInstant, start-in-K, resume-in-R, replaced-in, caught-in, less0-in, sequence-left, sequence-right}
 use Rattle.rules.proofs.Again.{own-both, only-right}
 use Rattle.agreement.proofs.Runs.{followed-emits}
 use Rattle.berry.proofs.Scopes.{declared, inLocals, Bound, only-in}
-use Rattle.berry.proofs.Tests.{not-both, and-first, and-second, more-in}
+use Rattle.berry.proofs.Tests.{more-in}
 use Rattle.berry.proofs.Restarts.{Redo, NoRestart}
 
 -- the signals that live when t is started ..
@@ -237,7 +236,7 @@ trap-shared D K c e =
 -- a start under F that goes on to q has 0 in K(p)
 ends-at-once : (F : Signals) (p : Stmt) (b : Bool) → NoInstant p → (same ((start F p) .code) 0 && b) ≡ true → K p 0 ≡ true
 ends-at-once F p b w e =
-    subst (λ (c : ℕ). K p c ≡ true) (zero-code ((start F p) .code) (and-first (same ((start F p) .code) 0) b e)) (start-in-K F p w)
+    subst (λ (c : ℕ). K p c ≡ true) (zero-code ((start F p) .code) (and-left (same ((start F p) .code) 0) b e)) (start-in-K F p w)
 
 module _ (E F : Signals) (H : Halts) (s : SignalNo) where
   -- what is known of a part
@@ -264,8 +263,8 @@ module _ (E F : Signals) (H : Halts) (s : SignalNo) where
 
       second : (same ((resume E H p) .code) 0 && startLives E q s) ≡ true → Shared p ((resume E H p) .code)
       second v =
-          let ended : (resume E H p) .code ≡ 0 = zero-code ((resume E H p) .code) (and-first (same ((resume E H p) .code) 0) (startLives E q s) v) in
-          let on : startLives E q s ≡ true = and-second (same ((resume E H p) .code) 0) (startLives E q s) v in
+          let ended : (resume E H p) .code ≡ 0 = zero-code ((resume E H p) .code) (and-left (same ((resume E H p) .code) 0) (startLives E q s) v) in
+          let on : startLives E q s ≡ true = and-right (same ((resume E H p) .code) 0) (startLives E q s) v in
           let too : (same ((start F p) .code) 0 && startLives F q s) ≡ true =
           right-too (startLives E q s) (startLives F p s) (same ((start F p) .code) 0) (startLives F q s) (inLocals p s) (inLocals q s)
           on (start-own E q s) (start-own F p s) (different s) u in
@@ -275,7 +274,7 @@ module _ (E F : Signals) (H : Halts) (s : SignalNo) where
       right-too (resumeLives E H q s) (startLives F p s) (same ((start F p) .code) 0) (startLives F q s) (inLocals p s) (inLocals q s)
       r (resume-own E H q s) (start-own F p s) (different s) u in
       right-shared (Redo p) (Redo q) (K p) (K q) ((resume E H q) .code) (ends-at-once F p (startLives F q s) wp too)
-      (tq (only-right (active H p) (active H q) h e) r (and-second (same ((start F p) .code) 0) (startLives F q s) too))
+      (tq (only-right (active H p) (active H q) h e) r (and-right (same ((start F p) .code) 0) (startLives F q s) too))
 
   loop-twice : (p : Stmt) → NoInstant p → K p 0 ≡ false → LivesTwice p → startLives F p s ≡ true → (k : ℕ) → (resume E H p) .code ≡ k
       → (resumeLives E H p s || (same k 0 && startLives E p s)) ≡ true → Shared (one Loop p) ((thenOn k (resume E H p) (start E p)) .code)
@@ -334,6 +333,6 @@ pub lives-once : (X E F : Signals) (H : Halts) (p : Stmt) → NoInstant (one Loo
     → active H p ≡ true → (resume E H p) .code ≡ 0 → (s : SignalNo) → (resumeLives E H p s && startLives F p s) ≡ false
 unfolding NoInstant NoRestart
 lives-once X E F H p w n f b h e s =
-    not-both (resumeLives E H p s) (startLives F p s) λ r u.
+    both-off (resumeLives E H p s) (startLives F p s) λ r u.
     let shared : (Redo p 0 || K p 0) ≡ true = rw e at (lives-twice E F H s X p (w .1) f b h r u) in
     true≢false (sym shared ∙ rw (n .0, w .0))

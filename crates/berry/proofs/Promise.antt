@@ -12,17 +12,17 @@ use Rattle.sheet.proofs.ProperRead.{proper}
 use Rattle.rules.specs.Rules.{Signals}
 use Rattle.rules.specs.States.{State, react, Event, Agrees, fits}
 use Rattle.compiler.specs.Check.{Accepted, accepted}
-use Rattle.agreement.proofs.Admitted.{Judged, judged-as}
+use Rattle.compiler.proofs.Passing.{Read, judged-read}
 use Rattle.agreement.proofs.Theorem.{reaction}
 use Rattle.berry.specs.Modules.{Derivative, Correct, body, haltsetOf, Alike, Faithful, FromHaltset}
 use Rattle.berry.proofs.Coding.{told-by-haltset}
 use Rattle.berry.proofs.Correctness.{faithful-reaction, correct-sheet, finite-sheet}
 
-the-sheet : {bytes : List ℕ} {w : Sheet} → Accepted bytes w → Judged bytes w
-the-sheet {bytes} {w} (accepted order e ordered) = judged-as bytes w e
+the-sheet : {bytes : List ℕ} {w : Sheet} → Accepted bytes w → Read bytes w
+the-sheet {bytes} (accepted order e ordered) = judged-read {s = bytes} e
 
 module _ {bytes : List ℕ} {w : Sheet} (ok : Accepted bytes w) where
-  judged : Judged bytes w
+  judged : Read bytes w
   judged = the-sheet ok
 
   well-formed : Proper (w .inputs) (w .outputs) (w .root)
@@ -32,15 +32,15 @@ module _ {bytes : List ℕ} {w : Sheet} (ok : Accepted bytes w) where
   -- one, is the one transition of 004's rules.
   pub faithful : (S : State) → fits S (w .root) ≡ true → (J : Signals) → Event (w .inputs) J → (E : Signals) → Agrees J S E (w .root)
       → Faithful w S J (react E S (w .root))
-  faithful = faithful-reaction w well-formed (judged .no-instant) (judged .no-twice) (reaction ok)
+  faithful = faithful-reaction w well-formed (judged .passes .no-instant) (judged .passes .no-twice) (reaction ok)
 
   -- The sheet is correct in 004's sense ..
   pub correct : Correct (w .inputs) (body (w .root))
-  correct = correct-sheet w well-formed (judged .no-instant) (judged .no-twice) (reaction ok)
+  correct = correct-sheet w well-formed (judged .passes .no-instant) (judged .passes .no-twice) (reaction ok)
 
   -- .. and has finitely many derivatives, each recovered from a haltset.
   pub finitely-many : (p : Stmt) → Derivative (w .inputs) (body (w .root)) p → FromHaltset (w .root) p
-  finitely-many = finite-sheet w well-formed (judged .no-instant) (judged .no-twice) (reaction ok)
+  finitely-many = finite-sheet w well-formed (judged .passes .no-instant) (judged .passes .no-twice) (reaction ok)
 
   -- A fitting state's haltset tells the state: "the unambiguous coding of any state" (004, section 4). So 004's halt and the boot register say the same.
   pub coded : (S S′ : State) → fits S (w .root) ≡ true → fits S′ (w .root) ≡ true → haltsetOf S (w .root) ≡ haltsetOf S′ (w .root) → Alike S S′

@@ -8,18 +8,19 @@ use Rattle.number.specs.declared.SignalNo.{SignalNo}
 use Rattle.number.specs.declared.HaltNo.{HaltNo}
 use Rattle.number.specs.Counts.{haltNo, ofHalt}
 use Rattle.number.specs.Number.{pick}
+use Rattle.number.proofs.Bools.{taut, or-left, or-right, or-cases, off}
+use Rattle.bits.specs.Bits.{boot}
 use Rattle.sheet.specs.declared.Leaf.the-variants.{Nothing, Halt, Emit, Exit}
 use Rattle.sheet.specs.declared.Binary.the-variants.{Sequence}
 use Rattle.sheet.specs.Stmt.{Stmt, leaf, one, two, haltCount}
 use Rattle.sheet.specs.Read.{only}
 use Rattle.sheet.proofs.Notions.{Numbered, Exits, inHalts, halt-within}
 use Rattle.sets.specs.Codes.{same, empty, join}
-use Rattle.sets.proofs.Bools.{taut}
 use Rattle.rules.specs.Rules.{Signals, Halts, Outcome, idle, onlyHalt, thenOn, followed, start, active, resume}
-use Rattle.rules.specs.States.{State, boot, haltsOf, react, nextState, tick, Agrees, fits}
-use Rattle.rules.proofs.Codes.{NoInstant, or-left, or-right}
+use Rattle.rules.specs.States.{State, haltsOf, react, nextState, tick, Agrees, fits}
+use Rattle.rules.proofs.Codes.{NoInstant}
 use Rattle.rules.proofs.Halting.{HaltsWithOne, start-halting, resume-halting}
-use Rattle.rules.proofs.Own.{or-cases, KeepsOwn}
+use Rattle.rules.proofs.Own.{KeepsOwn}
 use Rattle.rules.proofs.Again.{none, next-halts, booted-apart}
 use Rattle.agreement.proofs.Runs.{followed-emits}
 use Rattle.berry.specs.Behaviour.{Step, halt-rule, localsOf}
@@ -27,7 +28,7 @@ use Rattle.berry.specs.Haltsets.{recovering, recovered}
 use Rattle.berry.specs.Modules.{Transition, trailing, body, haltsetOf, standsFor}
 use Rattle.berry.proofs.Derivatives.{Lefts, nothing-lefts, start-lefts, resume-lefts}
 use Rattle.berry.proofs.Scopes.{inLocals, Bound}
-use Rattle.berry.proofs.Tests.{not-true, all-in}
+use Rattle.berry.proofs.Tests.{all-in}
 use Rattle.berry.proofs.Restarts.{NoRestart}
 use Rattle.berry.proofs.Lives.{startLives, resumeLives}
 use Rattle.berry.proofs.Courses.{Course, ending, halting, thenCourse, pickCourse, startCourse, resumeCourse, reactCourse}
@@ -241,7 +242,7 @@ module _ (t : Stmt) (o : Outcome) (few : o .code ≤ 1) where
       go : (k : ℕ) → o .code ≡ k → (thenOn k o (resting t)) .halts ≡ haltsetOf (nextState o) t
       go zero e =
           let ended : active (haltsOf (nextState o)) t ≡ false =
-          none (haltsOf (nextState o)) t (λ h i. next-halts o h ∙ not-true (o .halts h) (λ on. omega (arith, halting .with-one h on, e))) in
+          none (haltsOf (nextState o)) t (λ h i. next-halts o h ∙ off (o .halts h) (λ on. omega (arith, halting .with-one h on, e))) in
           rw ended
       go (suc zero) e =
           let k = halting .some e in

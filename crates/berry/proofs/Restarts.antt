@@ -1,10 +1,11 @@
 -- A sheet that TWICE does not refuse: no loop goes round at an instant in which it has resumed a parallel or signal statement that starting its body may start.
 use mathlib.Core.Path.{_≡_, refl}
-use mathlib.Core.Bool.{Bool, true, false, _&&_, _||_, false≢true, or-true}
+use mathlib.Core.Bool.{true, false, _&&_, false≢true, or-true}
 use mathlib.Core.List.{List, [], _∷_, _++_, map}
 use Prim.Native.Nat.{ℕ, zero, suc, _+_}
 use native.Mathlib.Omega.{arith}
 use Rattle.number.specs.declared.StmtNo.{StmtNo}
+use Rattle.number.proofs.Bools.{or-left, or-cases, off, and-left, and-right, or-left-off, or-right-off}
 use Rattle.sheet.specs.declared.Unary.the-variants.{Loop, Watching, Trap, Signal}
 use Rattle.sheet.specs.declared.Binary.the-variants.{Sequence, Present, Parallel}
 use Rattle.sheet.specs.Stmt.{Stmt, leaf, one, two, size}
@@ -13,10 +14,7 @@ use Rattle.sets.specs.declared.Found.the-variants.{Clear}
 use Rattle.sets.specs.Codes.{Codes, empty, join, when, replaced, caught, caughtCodes}
 use Rattle.sets.specs.Static.{K, R}
 use Rattle.sets.specs.Faults.{Climb, through, looped, besides, climbs, firstFault, twice}
-use Rattle.sets.proofs.Bools.{taut}
-use Rattle.rules.proofs.Codes.{or-left, caught-in, clear-loop}
-use Rattle.rules.proofs.Own.{or-cases}
-use Rattle.berry.proofs.Tests.{not-true, and-first, and-second}
+use Rattle.rules.proofs.Codes.{caught-in, clear-loop}
 
 -- The codes of a resumption of t that resumes a parallel or signal statement which a start of t may start.
 unfoldable pub Redo : Stmt → Codes
@@ -80,17 +78,11 @@ module _ (P : ℕ → Type 0) where
   not-zero C none f zero a = absurd (false≢true (rw none at a))
   not-zero C none f (suc j) a = (f (suc j) a, λ e. omega arith)
 
-  neither-first : (a b : Bool) → (a || b) ≡ false → a ≡ false
-  neither-first = taut 2 1 _ _ _ tt
-
-  neither-second : (a b : Bool) → (a || b) ≡ false → b ≡ false
-  neither-second = taut 2 1 _ _ _ tt
-
   fine-looped : (cs : List Climb) → Fine P (map looped cs) → Fine NotZero cs
   unfolding Fine
   fine-looped [] g = tt
   fine-looped (c ∷ cs) g =
-      (neither-first (c .fault) (c .codes 0) (g .0), not-zero (c .codes) (neither-second (c .fault) (c .codes 0) (g .0)) (g .1), fine-looped cs (g .2))
+      (or-left-off (c .fault) (c .codes 0) (g .0), not-zero (c .codes) (or-right-off (c .fault) (c .codes 0) (g .0)) (g .1), fine-looped cs (g .2))
 
   -- "As left of a sequence, 0 in C is replaced by K(right).": what is asked of the codes of the left
   abbrev Before : Codes → ℕ → Type 0
@@ -106,9 +98,9 @@ module _ (P : ℕ → Type 0) where
   replaced-back A B f (suc j) a = f (suc j) (or-left (A (suc j)) (A 0 && B (suc j)) a)
 
   replaced-on : (A B : Codes) → All (Before B) A → All P (replaced A B)
-  replaced-on A B f zero e = f 0 (and-first (A 0) (B 0) e) 0 (and-second (A 0) (B 0) e)
+  replaced-on A B f zero e = f 0 (and-left (A 0) (B 0) e) 0 (and-right (A 0) (B 0) e)
   replaced-on A B f (suc j) e =
-      or-cases (A (suc j)) (A 0 && B (suc j)) (f (suc j)) (λ b. f 0 (and-first (A 0) (B (suc j)) b) (suc j) (and-second (A 0) (B (suc j)) b)) e
+      or-cases (A (suc j)) (A 0 && B (suc j)) (f (suc j)) (λ b. f 0 (and-left (A 0) (B (suc j)) b) (suc j) (and-right (A 0) (B (suc j)) b)) e
 
   -- "A trap maps."
   abbrev Caught : ℕ → Type 0
@@ -139,7 +131,7 @@ redo-fine P n (two Sequence p q) f j e =
     fine-through P replacing (Before P (K q)) (λ A. replaced-back P A (K q)) xs (fine-first P (map (through replacing) xs) ys f) in
     or-cases (replaced (Redo p) (K q) j) (K p 0 && Redo q j)
     (replaced-on P (Redo p) (K q) (redo-fine (Before P (K q)) (further n 1) p left) j)
-    (λ b. redo-fine P (further n (1 + size p)) q (fine-second P (map (through replacing) xs) ys f) j (and-second (K p 0) (Redo q j) b)) e
+    (λ b. redo-fine P (further n (1 + size p)) q (fine-second P (map (through replacing) xs) ys f) j (and-right (K p 0) (Redo q j) b)) e
 redo-fine P n (two (Present s) p q) f j e =
     let xs : List Climb = climbs (further n 1) p in
     let ys : List Climb = climbs (further n (1 + size p)) q in
@@ -151,7 +143,7 @@ unfolding climbs NoRestart Fine
 fine-restart P n (leaf l) f = tt
 fine-restart P n (one Loop p) f =
     let g : Fine (NotZero P) (climbs (further n 1) p) = fine-looped P (climbs (further n 1) p) f in
-    (not-true (Redo p 0) (λ e. (redo-fine (NotZero P) (further n 1) p g 0 e) .1 refl), fine-restart (NotZero P) (further n 1) p g)
+    (off (Redo p 0) (λ e. (redo-fine (NotZero P) (further n 1) p g 0 e) .1 refl), fine-restart (NotZero P) (further n 1) p g)
 fine-restart P n (one (Watching s) p) f = fine-restart P (further n 1) p f
 fine-restart P n (one Trap p) f = fine-restart Any (further n 1) p (fine-through P caughtCodes Any (λ A g j a. tt) (climbs (further n 1) p) f)
 fine-restart P n (one (Signal s) p) f = fine-restart P (further n 1) p (f .2)

@@ -4,11 +4,10 @@ use mathlib.Core.Bool.{Bool, true, false, not, _&&_, _||_, or-false}
 use Prim.Native.Nat.{ℕ, zero, suc}
 use Rattle.number.specs.declared.SignalNo.{SignalNo}
 use Rattle.number.specs.Number.{pick}
+use Rattle.number.proofs.Bools.{taut, or-left, or-right}
 use Rattle.sheet.specs.Stmt.{Stmt}
 use Rattle.sets.specs.Codes.{same}
-use Rattle.sets.proofs.Bools.{taut}
 use Rattle.rules.specs.Rules.{Signals, Halts, Outcome, idle, followed, beside, start, resume}
-use Rattle.rules.proofs.Codes.{or-left, or-right}
 use Rattle.rules.proofs.Again.{swap}
 use Rattle.agreement.proofs.Runs.{followed-emits}
 use Rattle.berry.proofs.Scopes.{inLocals, Bound, undeclared}

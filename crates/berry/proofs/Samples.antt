@@ -9,7 +9,7 @@ use borrow.Author.Tests.{ne-eqb}
 use Rattle.number.specs.declared.SignalNo.{SignalNo}
 use Rattle.number.specs.Counts.{signalNo, ofSignal, haltNo, stmtNo}
 use Rattle.number.specs.Number.{numberAt, pick}
-use Rattle.bits.specs.Bits.{has}
+use Rattle.bits.specs.Bits.{has, noBits}
 use Rattle.sheet.specs.declared.Leaf.the-variants.{Nothing, Emit}
 use Rattle.sheet.specs.declared.Unary.the-variants.{Signal}
 use Rattle.sheet.specs.declared.Binary.the-variants.{Present, Parallel}
@@ -21,12 +21,13 @@ use Rattle.sets.specs.Codes.{empty, join}
 use Rattle.sets.specs.Static.{K, R, hasHalts}
 use Rattle.sets.specs.Faults.{orElse, instant, climbs, firstFault, twice}
 use Rattle.rules.specs.Rules.{Signals, Halts, onlyHalt, start, active, resume}
-use Rattle.rules.specs.States.{tick, react, noBits, apart, fits, Event, Agrees}
-use Rattle.gates.specs.Cells.{orAt, andAt, butnotAt}
+use Rattle.rules.specs.States.{tick, react, apart, fits, Event, Agrees}
+use Rattle.gates.specs.Folding.{gateAt}
 use Rattle.gates.specs.Rows.{orRow, pairs, highest, parallelRow}
 use Rattle.parts.specs.Equations.{build, buildHalt, buildEmit, buildSequence, buildLoop, buildPresent, buildWatching, buildParallel, buildTrap}
 use Rattle.builder.specs.Netlist.{netlist, sheetNetlist, rootOf, inputCells, signalCells}
 use Rattle.order.specs.Paths.{Ordered}
+use Rattle.order.proofs.ByTest.{every, inOrder, ordered}
 use Rattle.compiler.specs.Check.{unless, roomy, judged, judge, Accepted, accepted}
 use Rattle.berry.specs.Behaviour.{Step, nothing-rule, halt-rule, emit-rule, sequence-on, sequence-stays, loop-rule, present-then, present-else}
 use Rattle.berry.specs.Behaviour.{watching-rule, parallel-rule, signal-present, signal-absent, without, localsOf}
@@ -34,7 +35,6 @@ use Rattle.berry.specs.Haltsets.{recovering}
 use Rattle.berry.specs.Modules.{Transition, Move, moveOf, LocallyCorrect, Correct, body, standsFor, outputsOf, localsIn, Faithful}
 use Rattle.berry.specs.Programs.{handSheet, hand, handState, handSet, noFixpoint, twoFixpoints, againSheet, again, againState, againSet}
 use Rattle.berry.proofs.Promise.{faithful, correct}
-use Rattle.order.proofs.ByTest.{every, inOrder, ordered}
 
 -- The accepted program.
 handOrder : List ℕ
@@ -46,12 +46,12 @@ handPlaces = 0 ∷ 1 ∷ 2 ∷ 10 ∷ 8 ∷ 11 ∷ 12 ∷ 13 ∷ 14 ∷ 15 ∷ 5
 hand-judged : judge handSheet ≡ sheet hand
 unfolding numberAt pick size haltCount localCount signalOf naming emitting exiting haltAt localAt trapAt ofKind headOfKind inside andThen parts
     readStmt ended rootRead afterOutputs afterInputs readSheet K R hasHalts orElse instant climbs firstFault twice unless roomy judged judge
-    orAt andAt butnotAt orRow pairs highest parallelRow build buildHalt buildEmit buildSequence buildLoop buildPresent buildWatching buildParallel
+    gateAt orRow pairs highest parallelRow build buildHalt buildEmit buildSequence buildLoop buildPresent buildWatching buildParallel
     buildTrap netlist rootOf inputCells signalCells
 hand-judged = refl
 
 hand-ordered : Ordered (sheetNetlist hand) handOrder
-unfolding handOrder handPlaces every inOrder pick localCount K R hasHalts orAt andAt butnotAt orRow pairs highest parallelRow build buildHalt buildEmit
+unfolding handOrder handPlaces every inOrder pick localCount K R hasHalts gateAt orRow pairs highest parallelRow build buildHalt buildEmit
     buildSequence buildLoop buildPresent buildWatching buildParallel buildTrap netlist rootOf inputCells signalCells
 hand-ordered = ordered (sheetNetlist hand) handOrder handPlaces refl
 
@@ -153,7 +153,7 @@ again-faults = (refl, refl)
 
 -- but for TWICE it would be accepted: there is room for its cells, and they have an order
 pub again-room : roomy again ≡ sheet again
-unfolding pick localCount K R hasHalts orAt andAt butnotAt orRow pairs highest parallelRow build buildHalt buildEmit buildSequence buildLoop buildPresent
+unfolding pick localCount K R hasHalts gateAt orRow pairs highest parallelRow build buildHalt buildEmit buildSequence buildLoop buildPresent
     buildWatching buildParallel buildTrap netlist rootOf inputCells signalCells roomy
 again-room = refl
 
@@ -164,7 +164,7 @@ againPlaces : List ℕ
 againPlaces = 0 ∷ 1 ∷ 10 ∷ 8 ∷ 2 ∷ 3 ∷ 7 ∷ 9 ∷ 11 ∷ 12 ∷ 13 ∷ 4 ∷ 14 ∷ 15 ∷ 5 ∷ 6 ∷ []
 
 pub again-ordered : Ordered (sheetNetlist again) againOrder
-unfolding againOrder againPlaces every inOrder pick localCount K R hasHalts orAt andAt butnotAt orRow pairs highest parallelRow build buildHalt buildEmit
+unfolding againOrder againPlaces every inOrder pick localCount K R hasHalts gateAt orRow pairs highest parallelRow build buildHalt buildEmit
     buildSequence buildLoop buildPresent buildWatching buildParallel buildTrap netlist rootOf inputCells signalCells
 again-ordered = ordered (sheetNetlist again) againOrder againPlaces refl
 

@@ -7,6 +7,7 @@ use borrow.Author.Tests.{eqb-true, eq-eqb}
 use Rattle.number.specs.declared.SignalNo.{SignalNo}
 use Rattle.number.specs.declared.HaltNo.{HaltNo}
 use Rattle.number.specs.Counts.{signalNo, ofSignal}
+use Rattle.number.proofs.Bools.{taut, or-cases, off, both-off}
 use Rattle.sheet.specs.declared.Leaf.{Leaf}
 use Rattle.sheet.specs.declared.Leaf.the-variants.{Nothing, Halt, Emit, Exit}
 use Rattle.sheet.specs.declared.Unary.{Unary}
@@ -15,14 +16,10 @@ use Rattle.sheet.specs.declared.Binary.{Binary}
 use Rattle.sheet.specs.declared.Binary.the-variants.{Sequence, Present, Parallel}
 use Rattle.sheet.specs.Stmt.{Stmt, leaf, one, two, haltCount, localCount}
 use Rattle.sheet.specs.Read.{Around, inside, only}
-use Rattle.sheet.specs.Rows.{haltsOn}
-use Rattle.sheet.specs.Form.{signalsOn, LeafPlaced, UnaryPlaced, BinaryPlaced, Placed}
+use Rattle.sheet.specs.Form.{signalsOn, LeafPlaced, UnaryPlaced, BinaryPlaced, Placed, haltsOn}
 use Rattle.sheet.proofs.Notions.{Below, below-on, below-inside}
 use Rattle.sets.specs.Codes.{empty, join}
-use Rattle.sets.proofs.Bools.{taut}
 use Rattle.rules.specs.Rules.{Signals}
-use Rattle.rules.proofs.Own.{or-cases}
-use Rattle.berry.proofs.Tests.{not-true, not-both}
 
 -- the signals that a statement declares
 abbrev pub declared : Unary → Signals
@@ -134,7 +131,7 @@ local-within e a b (two x p q) h s on =
 sides-different : (e : Around) (a : HaltNo) (b : SignalNo) (x : Binary) (p q : Stmt) → Placed e a b (two x p q) → Different p q
 unfolding Placed
 sides-different e a b x p q h s =
-    not-both (inLocals p s) (inLocals q s) λ l r.
+    both-off (inLocals p s) (inLocals q s) λ l r.
     let before = local-within e a b p (h .1) s l in
     let after = local-within e (haltsOn a (haltCount p)) (signalsOn b (localCount p)) q (h .2) s r in
     omega (arith, before .1, after .0)
@@ -150,7 +147,7 @@ placed-bound e a b (one (Watching s) p) below h =
     (h .0, placed-bound (inside e (Watching s)) a (signalsOn b 0) p (below-inside e b (Watching s) (h .0) below) (h .1))
 placed-bound e a b (one Trap p) below h = (tt, placed-bound (inside e Trap) a (signalsOn b 0) p (below-inside e b Trap (h .0) below) (h .1))
 placed-bound e a b (one (Signal s) p) below h =
-    (not-true (e .scope s) new, placed-bound (inside e (Signal s)) a (signalsOn b 1) p (below-inside e b (Signal s) (h .0) below) (h .1))
+    (off (e .scope s) new, placed-bound (inside e (Signal s)) a (signalsOn b 1) p (below-inside e b (Signal s) (h .0) below) (h .1))
   where
     new : e .scope s ≡ true → ⊥
     new i = let own : ofSignal s ≡ ofSignal b = ap (λ (y : SignalNo). ofSignal y) (h .0) in omega (arith, below s i)

@@ -8,13 +8,14 @@ use Prim.Native.Nat.{ℕ, zero, suc, _+_, _<_}
 use Rattle.number.specs.declared.HaltNo.{HaltNo}
 use Rattle.number.specs.Counts.{haltNo}
 use Rattle.number.specs.Number.{pick}
+use Rattle.bits.specs.Bits.{boot, haltBit}
 use Rattle.sheet.specs.declared.Leaf.the-variants.{Nothing, Halt}
 use Rattle.sheet.specs.declared.Binary.the-variants.{Sequence}
 use Rattle.sheet.specs.Stmt.{Stmt, leaf, two, haltCount}
 use Rattle.sheet.specs.Read.{only, Sheet, rootAround}
 use Rattle.sets.specs.Codes.{empty, join}
 use Rattle.rules.specs.Rules.{Signals, Halts, Outcome, onlyHalt, active}
-use Rattle.rules.specs.States.{State, boot, haltBit, haltsOf, tick, Event, nextState}
+use Rattle.rules.specs.States.{State, haltsOf, tick, Event, nextState}
 use Rattle.berry.specs.Behaviour.{Step, localsOf}
 use Rattle.berry.specs.Haltsets.{recovering, recovered}
 
@@ -40,13 +41,13 @@ pub record Sole (J : Signals) (p : Stmt) (m : Move) : Type 0 where
   pub step : Transition J p (m .outputs) (m .level) (m .haltset) (m .derivative)
   pub alone : {O : Signals} {k : ℕ} {H : Halts} {p′ : Stmt} (d : Transition J p O k H p′) → moveOf d ≡ m
 
-pub record Reacts (J : Signals) (p : Stmt) : Type 0 where
+pub record OneTransition (J : Signals) (p : Stmt) : Type 0 where
   pub move : Move
   pub sole : Sole J p move
 
 -- 3.3: "a module M is locally correct if there is only one provable transition .. for any input event I": here an event of i inputs
 abbrev pub LocallyCorrect : ℕ → Stmt → Type 0
-LocallyCorrect i p = (J : Signals) → Event i J → Reacts J p
+LocallyCorrect i p = (J : Signals) → Event i J → OneTransition J p
 
 -- "all modules obtained by all possible sequences of provable transitions"; 4: "Call a derivative of stat any statement stat' that can be reached from stat by
 -- some sequence of reactions"

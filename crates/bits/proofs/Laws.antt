@@ -61,6 +61,21 @@ has-below n j = go (decLt j n)
         rw (bit, lt-ltb j n h)
     go (no h) = has-past n (2 ^ n - 1) j (ones-lt n) (omega arith) ∙ sym (le-ltb j n (omega arith))
 
+-- the same of all the bits that a word of n has
+pub has-below-word : (n k j : ℕ) → n ≤ k → j < n → has (2 ^ n - 1) j ≡ ltb j k
+has-below-word n k j past inside = has-below n j ∙ lt-ltb j n inside ∙ sym (lt-ltb j k (omega arith))
+
+-- the numbers below n, word by word
+pub below-place : (p k n : ℕ) → ltb k (n - 64 * p) ≡ ltb (64 * p + k) n
+below-place p k n = go (decLt (64 * p + k) n)
+  where
+    go : Dec (64 * p + k < n) → ltb k (n - 64 * p) ≡ ltb (64 * p + k) n
+    go (yes h) = lt-ltb k (n - 64 * p) (omega arith) ∙ sym (lt-ltb (64 * p + k) n h)
+    go (no h) = le-ltb k (n - 64 * p) (omega arith) ∙ sym (le-ltb (64 * p + k) n (omega arith))
+
+pub below-past : (j n : ℕ) → n ≤ j → ltb j n ≡ false
+below-past j n h = le-ltb j n h
+
 -- the set of k alone
 pub has-one : (k j : ℕ) → has (2 ^ k) j ≡ eqb j k
 unfolding has

@@ -13,13 +13,15 @@ use Rattle.sheet.specs.declared.Unary.the-variants.{Loop, Watching, Trap, Signa
 use Rattle.sheet.specs.declared.Binary.the-variants.{Sequence, Present, Parallel}
 use Rattle.sheet.specs.Stmt.{Stmt, leaf, one, two}
 use Rattle.sheet.proofs.Notions.{Scoped}
-use Rattle.gates.specs.declared.Cell.{Cell}
-use Rattle.gates.specs.Cells.{New, low, orAt, andAt, butnotAt, signalCell}
+use Rattle.cells.specs.declared.Cell.{Cell}
+use Rattle.cells.specs.Cells.{low, signalCell}
+use Rattle.cells.specs.declared.Gate.the-variants.{Or, And, Butnot}
+use Rattle.cells.proofs.Within.{AllWithin, none-within, append-within}
+use Rattle.gates.specs.Folding.{New, orAt, andAt, butnotAt}
 use Rattle.gates.specs.Rows.{code, withCode0, Row, orRow, pairs, Highest, parallelRow}
-use Rattle.gates.proofs.Operands.{AllWithin, NetsBelow, append-within, or-within, and-within, butnot-within, only-within, with-code0-within, trap-within}
-use Rattle.gates.proofs.Operands.{or-row-within, parallel-row-within}
-use Rattle.parts.specs.Equations.{Built, listOf, past, given, buildExit, buildEmit, buildHalt, build}
-use Rattle.parts.specs.Equations.{buildSequence, buildLoop, buildPresent, buildWatching, buildParallel, buildTrap}
+use Rattle.gates.proofs.Operands.{NetsBelow, gate-within, only-within, with-code0-within, trap-within, or-row-within, parallel-row-within}
+use Rattle.parts.specs.Equations.{Built, listOf, past, given, buildExit, buildEmit, buildHalt, build, buildSequence, buildLoop, buildPresent, buildWatching}
+use Rattle.parts.specs.Equations.{buildParallel, buildTrap}
 
 pub record BuiltWithin (s m : ℕ) (o : Built) : Type 0 where
   pub operands : AllWithin s m (o .cells)
@@ -28,10 +30,6 @@ pub record BuiltWithin (s m : ℕ) (o : Built) : Type 0 where
   pub lists : NetsBelow m (o .lists)
 
 module _ (s m : ℕ) where
-  none : AllWithin s m []
-  unfolding AllWithin
-  none = tt
-
   set-below : (L : List CellNo) (k : ℕ) (x : CellNo) → NetsBelow m L → ofCell x < m → NetsBelow m (set L k x)
   set-below [] k x h hx j = h j
   set-below (y ∷ L) zero x h hx zero = hx
@@ -40,13 +38,13 @@ module _ (s m : ℕ) where
   set-below (y ∷ L) (suc k) x h hx (suc j) = set-below L k x (λ i. h (suc i)) hx j
 
   exit-within : (k : ℕ) (g : CellNo) (L : List CellNo) → ofCell g < m → NetsBelow m L → BuiltWithin s m (buildExit k g L)
-  exit-within k g L hg hL = record { operands = none; sel = omega arith; codes = only-within s m k g hg; lists = hL }
+  exit-within k g L hg hL = record { operands = none-within s m; sel = omega arith; codes = only-within s m k g hg; lists = hL }
 
   emit-within : (e : SignalNo) (n : ℕ) (g : CellNo) (L : List CellNo) → ofCell g < m → NetsBelow m L → n + length ((buildEmit e n g L) .cells) ≤ m
       → BuiltWithin s m (buildEmit e n g L)
   unfolding buildEmit
   emit-within e n g L hg hL h =
-      let o = or-within s m n (listOf L e) g (hL (ofSignal e)) hg h in
+      let o = gate-within s m Or n (listOf L e) g (hL (ofSignal e)) hg h in
       record { operands = o .operands; sel = omega arith; codes = only-within s m 0 g hg; lists = set-below L (ofSignal e) _ hL (o .net) }
 
   halt-within : (n : ℕ) (g r i : CellNo) (L : List CellNo) → ofCell g < m → ofCell r < m → ofCell i < m → NetsBelow m L
@@ -59,9 +57,9 @@ module _ (s m : ℕ) where
       let l₁ : length (x .cells ++ (v .cells ++ w .cells)) ≡ length (x .cells) + length (v .cells ++ w .cells) = length-append (x .cells)
       (v .cells ++ w .cells) in
       let l₂ : length (v .cells ++ w .cells) ≡ length (v .cells) + length (w .cells) = length-append (v .cells) (w .cells) in
-      let wx = and-within s m (suc n) r (cellNo n) hr (omega arith) (omega arith) in
-      let wv = or-within s m (past (suc n) x) g (x .net) hg (wx .net) (omega arith) in
-      let ww = butnot-within s m (past (past (suc n) x) v) (v .net) i (wv .net) hi (omega arith) in
+      let wx = gate-within s m And (suc n) r (cellNo n) hr (omega arith) (omega arith) in
+      let wv = gate-within s m Or (past (suc n) x) g (x .net) hg (wx .net) (omega arith) in
+      let ww = gate-within s m Butnot (past (past (suc n) x) v) (v .net) i (wv .net) hi (omega arith) in
       record {
         operands =
             (ww .net, append-within s m (x .cells) (v .cells ++ w .cells) (wx .operands) (append-within s m (v .cells) (w .cells) (wv .operands) (ww .operands)));
@@ -97,9 +95,9 @@ module _ (s m : ℕ) where
       (y .cells ++ o .cells) in
       let l₄ : length (y .cells ++ o .cells) ≡ length (y .cells) + length (o .cells) = length-append (y .cells) (o .cells) in
       let hp : BuiltWithin s m p = f (omega arith) in
-      let wx = and-within s m n₂ r (p .sel) hr (hp .sel) (omega arith) in
-      let wy = and-within s m (past n₂ x) (x .net) (signalCell e) (wx .net) he (omega arith) in
-      let wo = or-within s m (past (past n₂ x) y) (code (p .codes) 0) (y .net) (hp .codes 0) (wy .net) (omega arith) in
+      let wx = gate-within s m And n₂ r (p .sel) hr (hp .sel) (omega arith) in
+      let wy = gate-within s m And (past n₂ x) (x .net) (signalCell e) (wx .net) he (omega arith) in
+      let wo = gate-within s m Or (past (past n₂ x) y) (code (p .codes) 0) (y .net) (hp .codes 0) (wy .net) (omega arith) in
       record {
         operands = append-within s m (a .cells) (p .cells ++ (x .cells ++ (y .cells ++ o .cells))) ha
             (append-within s m (p .cells) (x .cells ++ (y .cells ++ o .cells)) (hp .operands)
@@ -115,7 +113,7 @@ module _ (s m : ℕ) where
       let o : New = orAt (n + length (p .cells)) (code (p .codes) 0) (code (p .codes) 2) in
       let l₁ : length (p .cells ++ o .cells) ≡ length (p .cells) + length (o .cells) = length-append (p .cells) (o .cells) in
       let hp : BuiltWithin s m p = f (omega arith) in
-      let wo = or-within s m (n + length (p .cells)) (code (p .codes) 0) (code (p .codes) 2) (hp .codes 0) (hp .codes 2) (omega arith) in
+      let wo = gate-within s m Or (n + length (p .cells)) (code (p .codes) 0) (code (p .codes) 2) (hp .codes 0) (hp .codes 2) (omega arith) in
       record {
         operands = append-within s m (p .cells) (o .cells) (hp .operands) (wo .operands);
         sel = hp .sel;
@@ -139,7 +137,7 @@ module _ (s m : ℕ) where
       let l₃ : length (z .cells ++ c .cells) ≡ length (z .cells) + length (c .cells) = length-append (z .cells) (c .cells) in
       let hp : BuiltWithin s m p = f (omega arith) in
       let hq : BuiltWithin s m q = f′ (omega arith) hp in
-      let wz = or-within s m n₂ (p .sel) (q .sel) (hp .sel) (hq .sel) (omega arith) in
+      let wz = gate-within s m Or n₂ (p .sel) (q .sel) (hp .sel) (hq .sel) (omega arith) in
       let wc = or-row-within s m ps (q .codes) (past n₂ z) (with-code0-within s m low (p .codes) (omega (arith, hp .sel)) (hp .codes)) (hq .codes)
       (omega arith) in
       record {
@@ -167,7 +165,7 @@ module _ (s m : ℕ) where
       let l₄ : length (z .cells ++ c .cells) ≡ length (z .cells) + length (c .cells) = length-append (z .cells) (c .cells) in
       let hp : BuiltWithin s m p = f (omega arith) in
       let hq : BuiltWithin s m q = f′ (omega arith) hp in
-      let wz = or-within s m n₂ (p .sel) (q .sel) (hp .sel) (hq .sel) (omega arith) in
+      let wz = gate-within s m Or n₂ (p .sel) (q .sel) (hp .sel) (hq .sel) (omega arith) in
       let wc = or-row-within s m (p .codes) (q .codes) (past n₂ z) (hp .codes) (hq .codes) (omega arith) in
       record {
         operands = append-within s m (x .cells) (y .cells ++ (p .cells ++ rest)) hx (append-within s m (y .cells) (p .cells ++ rest) hy
@@ -193,7 +191,7 @@ module _ (s m : ℕ) where
       let l₃ : length (z .cells ++ c .cells) ≡ length (z .cells) + length (c .cells) = length-append (z .cells) (c .cells) in
       let hp : BuiltWithin s m p = f (omega arith) in
       let hq : BuiltWithin s m q = f′ (omega arith) hp in
-      let wz = or-within s m n₂ (p .sel) (q .sel) (hp .sel) (hq .sel) (omega arith) in
+      let wz = gate-within s m Or n₂ (p .sel) (q .sel) (hp .sel) (hq .sel) (omega arith) in
       let wc = parallel-row-within s m (p .codes) (q .codes) (past n₂ z) keep (hp .codes) (hq .codes) (omega arith) in
       record {
         operands = (
@@ -249,8 +247,8 @@ module _ (s m i N : ℕ) (signals : suc N ≤ m) where
       let b : Built = build q (n₁ + length (a .cells)) (y .net) r k (a .lists) in
       let fits : n₁ ≤ m = present-fits n n₁ x y a b refl h in
       let he : ofCell (signalCell e) < m = omega (arith, c .0) in
-      let wx = and-within s m n g (signalCell e) hg he (omega arith) in
-      let wy = butnot-within s m (past n x) g (signalCell e) hg he (omega arith) in
+      let wx = gate-within s m And n g (signalCell e) hg he (omega arith) in
+      let wy = gate-within s m Butnot (past n x) g (signalCell e) hg he (omega arith) in
       present-within s m n n₁ x y a b (wx .operands) (wy .operands) refl (λ l. build-within p n₁ (x .net) r k L (c .1) (wx .net) hr hk hL l)
       (λ l wa. build-within q (n₁ + length (a .cells)) (y .net) r k (a .lists) (c .2) (wy .net) hr hk (wa .lists) l) h
   build-within (one (Watching e) p) n g r k L c hg hr hk hL h =
@@ -258,7 +256,7 @@ module _ (s m i N : ℕ) (signals : suc N ≤ m) where
       let b : Built = build p (past n a) g (a .net) k L in
       let fits : past n a ≤ m = watching-fits e n r a b h in
       let he : ofCell (signalCell e) < m = omega (arith, c .0) in
-      let wa = butnot-within s m n r (signalCell e) hr he fits in
+      let wa = gate-within s m Butnot n r (signalCell e) hr he fits in
       watching-within s m e n (past n a) r a b he hr (wa .operands) refl (λ l. build-within p (past n a) g (a .net) k L (c .1) hg (wa .net) hk hL l) h
   build-within (two Parallel p q) n g r k L c hg hr hk hL h =
       let a : Built = build p (suc n) g r (cellNo n) L in

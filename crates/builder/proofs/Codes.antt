@@ -14,11 +14,12 @@ use Rattle.sheet.specs.declared.Unary.the-variants.{Loop, Watching, Trap, Signa
 use Rattle.sheet.specs.declared.Binary.the-variants.{Sequence, Present, Parallel}
 use Rattle.sheet.specs.Stmt.{Stmt, leaf, one, two}
 use Rattle.sheet.proofs.Notions.{Exits}
-use Rattle.gates.specs.Cells.{New, low, andAt, butnotAt, signalCell}
+use Rattle.cells.specs.Cells.{low, signalCell}
+use Rattle.gates.specs.Folding.{New, andAt, butnotAt}
 use Rattle.gates.specs.Rows.{code, withCode0}
 use Rattle.gates.proofs.LowAbove.{LowAbove, only-low, with-code0-low, trap-low, or-row-low, parallel-low}
-use Rattle.parts.specs.Equations.{Built, past, given, buildEmit, buildHalt, build}
-use Rattle.parts.specs.Equations.{buildSequence, buildLoop, buildPresent, buildWatching, buildParallel, buildTrap}
+use Rattle.parts.specs.Equations.{Built, past, given, buildEmit, buildHalt, build, buildSequence, buildLoop, buildPresent, buildWatching, buildParallel}
+use Rattle.parts.specs.Equations.{buildTrap}
 
 module _ (d : ℕ) where
   emit-low : (s : SignalNo) (n : ℕ) (g : CellNo) (L : List CellNo) → LowAbove d ((buildEmit s n g L) .codes)

@@ -1,17 +1,18 @@
 -- The head and the foot of the netlist, and the whole from them and the root.
 use Prim.Native.Nat.{ℕ, zero, suc, _+_, _-_, _<_, _≤_}
 use mathlib.Core.Path.{_≡_, refl, sym, ap, _∙_}
+use mathlib.Core.Bool.{true, false}
 use mathlib.Core.List.{List, [], _∷_, _++_, map}
 use native.Mathlib.Omega.{arith}
 use native.Mathlib.Numerals.{add-one}
 use lib.ListN.{length, set, length-map, replicate}
 use lib.Seq.{sets, length-sets}
-use borrow.Author.Tests.{lt-ltb, le-ltb}
 use Rattle.number.specs.Counts.{cellNo, signalNo, stmtNo, haltNo}
 use Rattle.number.specs.Number.{pick}
 use Rattle.number.specs.Refusals.{fault}
 use Rattle.number.specs.declared.CellNo.{CellNo}
 use Rattle.number.specs.declared.Refusal.the-variants.{Room}
+use Rattle.limits.specs.Limits.{maxSignals, manyCells}
 use Rattle.sheet.specs.declared.Leaf.the-variants.{Nothing, Halt, Emit, Exit}
 use Rattle.sheet.specs.declared.Unary.{Unary}
 use Rattle.sheet.specs.declared.Unary.the-variants.{Loop, Watching, Trap, Signal}
@@ -20,17 +21,21 @@ use Rattle.sheet.specs.declared.Binary.the-variants.{Sequence, Present, Paralle
 use Rattle.sheet.specs.Stmt.{Stmt, leaf, one, two, localCount}
 use Rattle.sheet.proofs.Notions.{UnaryScoped, BinaryScoped, Scoped, proper-scoped, proper-exits}
 use Rattle.sets.proofs.Bounds.{exits-low}
-use Rattle.gates.specs.declared.Cell.{Cell}
-use Rattle.gates.specs.declared.Cell.the-variants.{Low, High, Input, Or, Butnot, Register}
-use Rattle.gates.specs.Cells.{low, high}
-use Rattle.gates.specs.Store.{word, Wrote}
+use Rattle.cells.specs.declared.Cell.{Cell}
+use Rattle.cells.specs.declared.Cell.the-variants.{Low, High, Input, Gate, Register}
+use Rattle.cells.specs.declared.Gate.the-variants.{Or, Butnot}
+use Rattle.cells.specs.Cells.{low, high}
+use Rattle.cells.specs.Words.{word}
+use Rattle.gates.specs.Store.{Wrote}
 use Rattle.gates.proofs.Laws.{wrote-more, set-below}
+use Rattle.parts.specs.declared.Returned.{Returned}
+use Rattle.parts.specs.Equations.{Built, listOf}
+use Rattle.parts.specs.Contract.{nets, Builds, UnaryNamed, BinaryNamed}
 use Rattle.builder.specs.declared.NetlistBuilt.{NetlistBuilt}
 use Rattle.builder.specs.declared.NetlistBuilt.the-variants.{Cells, Refused}
-use Rattle.parts.specs.Equations.{Built, listOf}
 use Rattle.builder.specs.Netlist.{inputCells, signalCells, rootOf, bootCells, netlist}
-use Rattle.parts.specs.Contract.{nets, Builds, UnaryNamed, BinaryNamed}
-use Rattle.builder.specs.Contract.{Named, Fit, Ready, Does, OfSheet, SomeSheet, roomFor, Whole, DoesNetlist}
+use Rattle.builder.specs.Walking.{Named, Fit, Buildable, Task, Does}
+use Rattle.builder.specs.Contract.{OfSheet, SomeSheet, roomFor, Whole, DoesNetlist}
 
 -- The loops: what is left to be written, once written, makes the whole. First that over the inputs, at signal s:
 pub record Inputs (l₀ l : List ℕ) (I s : ℕ) : Type 0 where
@@ -72,7 +77,7 @@ pub record Signals (L : List CellNo) (l₀ l : List ℕ) (from end s : ℕ) : Ty
   pub rest : sets l (suc s) (map word (signalCells L s (end - s))) ≡ sets l₀ (suc from) (map word (signalCells L from (end - from)))
 
 one-signal : (L : List CellNo) (l : List ℕ) (s k : ℕ)
-    → sets (set l (suc s) (word (Or (listOf L (signalNo s)) low))) (suc (suc s)) (map word (signalCells L (suc s) k))
+    → sets (set l (suc s) (word (Gate Or (listOf L (signalNo s)) low))) (suc (suc s)) (map word (signalCells L (suc s) k))
     ≡ sets l (suc s) (map word (signalCells L s (suc k)))
 unfolding signalCells
 one-signal L l s k = refl
@@ -82,7 +87,7 @@ unfolding signalCells
 no-signal L l end s h = let none : end - s ≡ 0 = omega arith in rw none refl
 
 module _ {L : List CellNo} {l₀ l : List ℕ} {from end s : ℕ} (h : Signals L l₀ l from end s) where
-  pub signals-step : {l′ : List ℕ} → s < end → l′ ≡ set l (suc s) (word (Or (listOf L (signalNo s)) low)) → Signals L l₀ l′ from end (s + 1)
+  pub signals-step : {l′ : List ℕ} → s < end → l′ ≡ set l (suc s) (word (Gate Or (listOf L (signalNo s)) low)) → Signals L l₀ l′ from end (s + 1)
   signals-step {l′} more e =
       let left : end - s ≡ suc (end - suc s) = omega arith in
       record { rest = rw (add-one s, e) (one-signal L l s (end - suc s) ∙ (rw left at (h .rest))) }
@@ -118,16 +123,16 @@ withInputs I l = sets l 0 (map word (Low ∷ (High ∷ inputCells 1 I)))
 
 -- the head: constants, inputs, boot
 pub head-wrote : (I n : ℕ) (l : List ℕ) {l₁ l₂ l₃ l₄ l₅ : List ℕ} → l₁ ≡ set l 0 (word Low) → l₂ ≡ set l₁ 1 (word High) → l₃ ≡ sets l₂ 2 (map word (inputCells 1 I))
-    → l₄ ≡ set l₃ (1 + n) (word (Register high)) → l₅ ≡ set l₄ (2 + n) (word (Butnot high (cellNo (1 + n))))
+    → l₄ ≡ set l₃ (1 + n) (word (Register high)) → l₅ ≡ set l₄ (2 + n) (word (Gate Butnot high (cellNo (1 + n))))
     → l₅ ≡ sets (withInputs I l) (1 + n) (map word (bootCells n))
 head-wrote I n l e₁ e₂ e₃ e₄ e₅ = let next : 2 + n ≡ suc (1 + n) = omega arith in e₅ ∙ rw (next, e₄, e₃, e₂, e₁) refl
 
 -- the head, the root and the foot
-whole-wrote : (I U : ℕ) (t : Stmt) {l l₁ l₂ l₃ ls : List ℕ} {count : ℕ} {s : CellNo} {ks : List CellNo}
-    → l₁ ≡ sets (withInputs I l) (1 + (1 + I + U)) (map word (bootCells (1 + I + U))) → Builds (rootOf (1 + I + U) t) l₁ l₂ ls (3 + (1 + I + U)) count s ks
-    → l₃ ≡ sets l₂ (2 + I) (map word (signalCells (nets ls) (1 + I) U)) → Wrote l l₃ 0 count (netlist I U t)
+whole-wrote : (I U : ℕ) (t : Stmt) {l l₁ l₂ l₃ ls : List ℕ} {b : Returned}
+    → l₁ ≡ sets (withInputs I l) (1 + (1 + I + U)) (map word (bootCells (1 + I + U))) → Builds (rootOf (1 + I + U) t) l₁ l₂ ls (3 + (1 + I + U)) b
+    → l₃ ≡ sets l₂ (2 + I) (map word (signalCells (nets ls) (1 + I) U)) → Wrote l l₃ 0 (b .count) (netlist I U t)
 unfolding netlist
-whole-wrote I U t {l} {l₁} {l₂} {l₃} {count = count} head b foot =
+whole-wrote I U t {l} {l₁} {l₂} {l₃} {b = r} head b foot =
     let before : List ℕ = withInputs I l in
     let root : Built = rootOf (1 + I + U) t in
     let S : List Cell = signalCells (root .lists) (1 + I) U in
@@ -135,7 +140,7 @@ whole-wrote I U t {l} {l₁} {l₂} {l₃} {count = count} head b foot =
     let with-S : List ℕ = sets before (2 + I) (map word S) in
     let inputs : Wrote l before 0 (2 + I) (Low ∷ (High ∷ inputCells 1 I)) = record { stored = refl; counted = omega (arith, length-inputs 1 I) } in
     let boot : Wrote before l₁ (1 + (1 + I + U)) (3 + (1 + I + U)) (bootCells (1 + I + U)) = record { stored = head; counted = omega arith } in
-    let rest : Wrote before l₂ (1 + (1 + I + U)) count C = wrote-more boot (b .wrote) in
+    let rest : Wrote before l₂ (1 + (1 + I + U)) (r .count) C = wrote-more boot (b .wrote) in
     let signals : Wrote before with-S (2 + I) (1 + (1 + I + U)) S = record { stored = refl; counted = omega (arith, length-signals (root .lists) (1 + I) U) } in
     let few : 2 + I + length (map word S) ≤ 1 + (1 + I + U) = omega (arith, length-map S word, length-signals (root .lists) (1 + I) U) in
     let last : l₃ ≡ sets with-S (1 + (1 + I + U)) (map word C) =
@@ -143,19 +148,19 @@ whole-wrote I U t {l} {l₁} {l₂} {l₃} {count = count} head b foot =
     wrote-more inputs (wrote-more signals (record { stored = last; counted = rest .counted }))
 
 -- the answer
-pub over : (k : ℕ) → 1024 < k → Refused (fault Room 0) ≡ roomFor k
+pub over : (k : ℕ) → manyCells k ≡ true → Refused (fault Room 0) ≡ roomFor k
 unfolding roomFor pick
-over k h = rw (lt-ltb 1024 k h) refl
+over k h = rw h refl
 
-pub not-over : (k : ℕ) → k ≤ 1024 → Cells k ≡ roomFor k
+pub not-over : (k : ℕ) → manyCells k ≡ false → Cells k ≡ roomFor k
 unfolding roomFor pick
-not-over k h = rw (le-ltb 1024 k h) refl
+not-over k h = rw h refl
 
 whole : {cs : List Cell} {l l′ : List ℕ} {count : ℕ} {r : NetlistBuilt} → Wrote l l′ 0 count cs → r ≡ roomFor count → Whole cs l l′ r
 whole {cs} {count = count} w e = let all : count ≡ length cs = omega (arith, w .counted) in record { answer = e ∙ ap roomFor all; stored = w .stored }
 
 -- What the code asks of a statement is so of a sheet's.
-named : (i n : ℕ) (t : Stmt) → n ≤ 64 → Scoped i n t → Named t
+named : (i n : ℕ) (t : Stmt) → n ≤ maxSignals → Scoped i n t → Named t
 unfolding Scoped Named
 named i n (leaf Nothing) h c = tt
 named i n (leaf (Halt k)) h c = tt
@@ -184,12 +189,12 @@ module _ {rows ms : List ℕ} {I n O : ℕ} {t : Stmt} (is : OfSheet rows ms I n
         kept = is .kept;
       }
 
-  pub sheet-signals : (I < n) × (n ≤ 64)
+  pub sheet-signals : (I < n) × (n ≤ maxSignals)
   sheet-signals = (omega (arith, is .signals), omega (arith, is .signals, is .proper .signals))
 
-pub sheet-ready : {rows ms ls : List ℕ} {I n : ℕ} (w : SomeSheet rows ms I n) → length ls ≡ 64 → Ready rows ms ls (stmtNo 0) (3 + n)
+pub sheet-ready : {rows ms ls : List ℕ} {I n : ℕ} (w : SomeSheet rows ms I n) → length ls ≡ maxSignals → Buildable rows ms ls (stmtNo 0) (3 + n)
 sheet-ready {n = n} w long =
-    let few : n ≤ 64 = sheet-signals (w .is) .1 in
+    let few : n ≤ maxSignals = sheet-signals (w .is) .1 in
     record {
       first = haltNo 0;
       stmt = w .stmt;
@@ -199,18 +204,33 @@ sheet-ready {n = n} w long =
       room = omega (arith, w .is .proper .statements);
     }
 
+-- the walk of the root
+abbrev rootTask : List ℕ → List ℕ → ℕ → List ℕ → Task
+rootTask rows ms n l =
+    record {
+      rows = rows;
+      statics = ms;
+      stmt = stmtNo 0;
+      next = 3 + n;
+      go = cellNo (2 + n);
+      res = high;
+      kill = low;
+      cells = l;
+      lists = replicate maxSignals 0;
+    }
+
 -- the whole
-pub netlist-does : {rows ms l l₁ l₂ l₃ ls : List ℕ} {count : ℕ} {s : CellNo} {ks : List CellNo} {r : NetlistBuilt} (I n : ℕ)
+pub netlist-does : {rows ms l l₁ l₂ l₃ ls : List ℕ} {b : Returned} {r : NetlistBuilt} (I n : ℕ)
     → l₁ ≡ sets (withInputs I l) (1 + n) (map word (bootCells n))
-    → Does rows ms (stmtNo 0) (3 + n) (cellNo (2 + n)) high low l₁ l₂ (replicate 64 0) ls count s ks
-    → l₃ ≡ sets l₂ (suc (1 + I)) (map word (signalCells (nets ls) (1 + I) (n - (1 + I)))) → r ≡ roomFor count → DoesNetlist rows ms I n l l₃ r
+    → Does (rootTask rows ms n l₁) l₂ ls b
+    → l₃ ≡ sets l₂ (suc (1 + I)) (map word (signalCells (nets ls) (1 + I) (n - (1 + I)))) → r ≡ roomFor (b .count) → DoesNetlist rows ms I n l l₃ r
 unfolding rootOf
-netlist-does {rows} {ms} {l} {l₁} {l₂} {l₃} {ls} {count} {s} {ks} I n head d foot e = record {
+netlist-does {rows} {ms} {l} {l₁} {l₂} {l₃} {ls} {b = r} I n head d foot e = record {
   does = λ O t is.
       let U : ℕ = O + localCount t in
       let all : n ≡ 1 + I + U = omega (arith, is .signals) in
       let others : n - (1 + I) ≡ U = omega arith in
       let next : suc (1 + I) ≡ 2 + I = omega arith in
-      let b : Builds (rootOf n t) l₁ l₂ ls (3 + n) count s ks = d .does (haltNo 0) t (is .holds) (sheet-fit is) in
+      let b : Builds (rootOf n t) l₁ l₂ ls (3 + n) r = d .does (haltNo 0) t (is .holds) (sheet-fit is) in
       whole (whole-wrote I U t (rw all at head) (rw all at b) (rw (others, next) at foot)) e;
 }

@@ -9,34 +9,39 @@ use lib.Seq.{sets, sets-eq, take-at, getD-at}
 use Rattle.number.specs.Counts.{cellNo, signalNo, haltNo, ofHalt, ofCell}
 use Rattle.number.specs.declared.CellNo.{CellNo}
 use Rattle.number.specs.declared.HaltNo.{HaltNo}
+use Rattle.limits.specs.Limits.{maxSignals, maxRegisters}
 use Rattle.sheet.specs.declared.Leaf.the-variants.{Halt}
 use Rattle.sheet.specs.Stmt.{Stmt, leaf, size, haltCount, localCount}
 use Rattle.sheet.specs.Form.{Proper}
 use Rattle.sheet.proofs.Notions.{Numbered, Scoped, proper-scoped, proper-exits}
-use Rattle.gates.specs.declared.Cell.{Cell}
-use Rattle.gates.specs.declared.Cell.the-variants.{Low, High, Input, Or, Butnot, Register}
-use Rattle.gates.specs.Cells.{low, high}
-use Rattle.gates.specs.Rows.{code}
 use Rattle.sets.specs.Words.{Low as LowLevels}
 use Rattle.sets.proofs.Bounds.{exits-low}
-use Rattle.gates.specs.Store.{word}
-use Rattle.gates.specs.Values.{cellAt, registers, before}
-use Rattle.gates.proofs.Operands.{AllWithin, NetsBelow, append-within}
+use Rattle.cells.specs.declared.Cell.{Cell}
+use Rattle.cells.specs.declared.Cell.the-variants.{Low, High, Input, Gate, Register}
+use Rattle.cells.specs.declared.Gate.the-variants.{Or, Butnot}
+use Rattle.cells.specs.Cells.{low, high, cellAt}
+use Rattle.cells.specs.Words.{word}
+use Rattle.cells.specs.Values.{registers, before}
+use Rattle.cells.proofs.Within.{AllWithin, append-within}
+use Rattle.cells.proofs.Counting.{registers-append}
+use Rattle.gates.specs.Rows.{code}
+use Rattle.gates.proofs.Operands.{NetsBelow}
 use Rattle.parts.specs.Equations.{Built, listOf, buildHalt, build}
+use Rattle.parts.specs.Contract.{ownCells}
 use Rattle.builder.specs.Netlist.{inputCells, signalCells, noLists, rootOf, bootCells, netlist}
 use Rattle.builder.proofs.Ends.{length-inputs, length-signals}
 use Rattle.builder.proofs.Gates.{Gates, gates-nil, gates-cons, gates-append, build-gates}
 use Rattle.builder.proofs.Closed.{build-within}
 use Rattle.builder.proofs.Few.{sized}
-use Rattle.builder.proofs.Registers.{registers-append, of-build}
-use Rattle.builder.proofs.Places.{Pins, Part, part-stands, part-number}
+use Rattle.builder.proofs.Registers.{of-build}
+use Rattle.builder.proofs.Places.{Takes, Part, part-stands, part-number}
 
 -- with n signals the root is built with these
-abbrev pub rootPins : ℕ → Pins
-rootPins n = record { first = 3 + n; go = cellNo (2 + n); res = high; kill = low; lists = noLists }
+abbrev pub rootTakes : ℕ → Takes
+rootTakes n = record { first = 3 + n; go = cellNo (2 + n); res = high; kill = low; lists = noLists }
 
 no-lists : (m : ℕ) → 0 < m → NetsBelow m noLists
-no-lists m h j = go 64 j
+no-lists m h j = go maxSignals j
   where
     go : (k j : ℕ) → ofCell (code (replicate k low) j) < m
     go zero j = h
@@ -55,7 +60,7 @@ signals-none L s (suc k) = signals-none L (suc s) k
 
 signals-gates : (L : List CellNo) (s k : ℕ) → Gates (signalCells L s k)
 unfolding signalCells
-signals-gates L s (suc k) = gates-cons (Or (listOf L (signalNo s)) low) (signalCells L (suc s) k) refl (signals-gates L (suc s) k)
+signals-gates L s (suc k) = gates-cons (Gate Or (listOf L (signalNo s)) low) (signalCells L (suc s) k) refl (signals-gates L (suc s) k)
 signals-gates L s zero = gates-nil
 
 inputs-within : (m I s k : ℕ) → s + k ≤ 1 + I → AllWithin (1 + I) m (inputCells s k)
@@ -100,8 +105,8 @@ module _ (I U : ℕ) (t : Stmt) where
   netlist-gates =
       let n : ℕ = 1 + I + U in
       gates-append (signalCells (root .lists) (1 + I) U) (bootCells n ++ root .cells) (signals-gates (root .lists) (1 + I) U)
-      (gates-cons (Register high) (Butnot high (cellNo (1 + n)) ∷ root .cells) refl
-      (gates-cons (Butnot high (cellNo (1 + n))) (root .cells) refl (build-gates t (3 + n) (cellNo (2 + n)) high low noLists)))
+      (gates-cons (Register high) (Gate Butnot high (cellNo (1 + n)) ∷ root .cells) refl
+      (gates-cons (Gate Butnot high (cellNo (1 + n))) (root .cells) refl (build-gates t (3 + n) (cellNo (2 + n)) high low noLists)))
 
   netlist-front : netlist I U t ≡ front ++ root .cells
   unfolding netlist front
@@ -157,7 +162,7 @@ module _ (I U : ℕ) (t : Stmt) where
 
   -- the cells from boot on
   pub boot-split : netlist I U t
-      ≡ (Low ∷ (High ∷ (inputCells 1 I ++ signalCells (root .lists) (1 + I) U))) ++ (Register high ∷ (Butnot high (cellNo (2 + I + U)) ∷ root .cells))
+      ≡ (Low ∷ (High ∷ (inputCells 1 I ++ signalCells (root .lists) (1 + I) U))) ++ (Register high ∷ (Gate Butnot high (cellNo (2 + I + U)) ∷ root .cells))
   unfolding netlist
   boot-split =
       let e : 2 + I + U ≡ 1 + (1 + I + U) = omega arith in
@@ -170,11 +175,11 @@ module _ (I U : ℕ) (t : Stmt) where
   boot-register =
       let S : List Cell = signalCells (root .lists) (1 + I) U in
       let p : List Cell = Low ∷ (High ∷ (inputCells 1 I ++ S)) in
-      let e : netlist I U t ≡ p ++ (Register high ∷ (Butnot high (cellNo (2 + I + U)) ∷ root .cells)) = boot-split in
+      let e : netlist I U t ≡ p ++ (Register high ∷ (Gate Butnot high (cellNo (2 + I + U)) ∷ root .cells)) = boot-split in
       let long : length p ≡ 2 + I + U =
       omega (arith, length-append (inputCells 1 I) S, length-inputs 1 I, length-signals (root .lists) (1 + I) U) in (
-        rw e (getD-at p (Register high) (Butnot high (cellNo (2 + I + U)) ∷ root .cells) Low (2 + I + U) long),
-        rw e (ap registers (take-at p (Register high ∷ (Butnot high (cellNo (2 + I + U)) ∷ root .cells)) (2 + I + U) long)
+        rw e (getD-at p (Register high) (Gate Butnot high (cellNo (2 + I + U)) ∷ root .cells) Low (2 + I + U) long),
+        rw e (ap registers (take-at p (Register high ∷ (Gate Butnot high (cellNo (2 + I + U)) ∷ root .cells)) (2 + I + U) long)
             ∙ simp (registers-append, inputs-none, signals-none)),
       )
 
@@ -194,7 +199,7 @@ unfolding build buildHalt
 halt-starts h n g r i L = record { operand = _; rest = _; is = refl }
 
 -- registers stand in the order boot, halt 0, halt 1, ..
-pub halt-register : (I U : ℕ) (t : Stmt) → Numbered (haltNo 0) t → {h : HaltNo} {w : Pins} {k : ℕ} → Part t (rootPins (1 + I + U)) (leaf (Halt h)) w k
+pub halt-register : (I U : ℕ) (t : Stmt) → Numbered (haltNo 0) t → {h : HaltNo} {w : Takes} {k : ℕ} → Part t (rootTakes (1 + I + U)) (leaf (Halt h)) w k
     → HaltRegister (netlist I U t) h (cellNo (w .first))
 unfolding rootOf
 halt-register I U t numbered {h} {w} {k} part =
@@ -220,9 +225,9 @@ stored-whole cs l h =
     let long : length (map word cs) ≡ length cs = length-map cs word in
     rw (sets-eq (map word cs) l 0 (omega arith)) (take-at (map word cs) (drop (0 + length (map word cs)) l) (length cs) long)
 
--- Of a sheet: at most 64 registers, closed, at most 32 cells for each statement besides those of the signals.
+-- Of a sheet: its registers are not too many, it is closed, and it has at most `ownCells` for each statement besides the cells of the signals.
 module _ {I O : ℕ} {t : Stmt} (h : Proper I O t) where
-  pub few-registers : registers (netlist I (O + localCount t) t) ≤ 64
+  pub few-registers : registers (netlist I (O + localCount t) t) ≤ maxRegisters
   few-registers = omega (arith, netlist-registers I (O + localCount t) t, h .halts)
 
   pub sheet-closed : AllWithin (1 + I) (length (netlist I (O + localCount t) t)) (netlist I (O + localCount t) t)
@@ -230,7 +235,7 @@ module _ {I O : ℕ} {t : Stmt} (h : Proper I O t) where
       let all : 1 + I + O + localCount t ≡ 1 + I + (O + localCount t) = omega arith in
       netlist-closed I (O + localCount t) t (subst (λ (n : ℕ). Scoped I n t) all (proper-scoped h))
 
-  pub few-cells : length (netlist I (O + localCount t) t) ≤ 4 + I + (O + localCount t) + 32 * size t
+  pub few-cells : length (netlist I (O + localCount t) t) ≤ 4 + I + (O + localCount t) + ownCells * size t
   unfolding rootOf
   few-cells =
       let U : ℕ = O + localCount t in

@@ -7,4 +7,3 @@ pub mod Registers
 pub mod Places
 pub mod Gates
 pub mod Format
-pub mod Samples

@@ -8,7 +8,10 @@ use lib.ListN.{length, length-append}
 use Rattle.number.specs.Counts.{ofStmt}
 use Rattle.number.specs.declared.CellNo.{CellNo}
 use Rattle.number.specs.declared.StmtNo.{StmtNo}
+use Rattle.number.specs.declared.HaltNo.{HaltNo}
 use Rattle.bits.specs.Bits.{has}
+use Rattle.limits.specs.Limits.{maxSignals}
+use Rattle.sheet.specs.Form.{haltsOn}
 use Rattle.sheet.specs.declared.Leaf.{Leaf}
 use Rattle.sheet.specs.declared.Unary.{Unary}
 use Rattle.sheet.specs.declared.Unary.the-variants.{Loop, Watching, Trap, Signal}
@@ -17,16 +20,20 @@ use Rattle.sheet.specs.declared.Binary.the-variants.{Sequence, Present, Paralle
 use Rattle.sheet.specs.declared.Head.the-variants.{Zero, One, Two}
 use Rattle.sheet.specs.Stmt.{Stmt, leaf, one, two, size, haltCount}
 use Rattle.sheet.specs.Read.{further}
-use Rattle.sheet.specs.Rows.{Holds, rowAt, haltsOn}
+use Rattle.sheet.specs.Rows.{Holds, rowAt}
 use Rattle.sheet.proofs.Walk.{size-pos, within, few-numbers, is-leaf, is-one, is-two, IsOne, IsTwo}
 use Rattle.sets.specs.Words.{LowLeaf, Low, Entered, Kept}
-use Rattle.gates.specs.Cells.{New, andAt, butnotAt, signalCell}
-use Rattle.parts.specs.Equations.{past, given, build}
-use Rattle.parts.specs.Contract.{nets, Builds, openOne, openTwo, goOf, Opens, ClosesOne, ClosesTwo}
-use Rattle.parts.specs.Contract.{LeafNamed, UnaryNamed, BinaryNamed}
+use Rattle.cells.specs.Cells.{signalCell}
+use Rattle.cells.specs.declared.Gate.the-variants.{And, Butnot}
+use Rattle.gates.specs.Folding.{New, andAt, butnotAt}
+use Rattle.gates.specs.Store.{parallelCells}
+use Rattle.parts.specs.declared.Returned.{Returned}
+use Rattle.parts.specs.declared.Opened.{Opened}
+use Rattle.parts.specs.Equations.{Built, past, given, build}
+use Rattle.parts.specs.Contract.{nets, ownCells, Begun, Builds, openOne, openTwo, goOf, Opens, ClosesOne, ClosesTwo, LeafNamed, UnaryNamed, BinaryNamed}
 use Rattle.parts.proofs.Parts.{builds-as, one-builds, two-builds}
-use Rattle.builder.specs.Contract.{Named, Fit, Ready, Does}
-use Rattle.builder.proofs.Few.{and-few, butnot-few, sized}
+use Rattle.builder.specs.Walking.{Named, Fit, Buildable, Task, Does}
+use Rattle.builder.proofs.Few.{gate-few, sized}
 
 -- what the code asks of a statement it may ask of the parts
 module _ {ms : List ℕ} {n : StmtNo} where
@@ -47,49 +54,60 @@ module _ {ms : List ℕ} {n : StmtNo} where
   unfolding Kept
   entry b p q f = f .kept .0
 
--- What the walk does at a row, from what its calls do.
-module _ {rows ms : List ℕ} {n : StmtNo} {count : ℕ} {g r i : CellNo} {l ls : List ℕ} where
-  pub leaf-does : {l′ ls′ : List ℕ} {count′ : ℕ} {s : CellNo} {ks : List CellNo} {x : Leaf} → rowAt rows n .head ≡ Zero x
-      → Builds (build (leaf x) count g r i (nets ls)) l l′ ls′ count count′ s ks → Does rows ms n count g r i l l′ ls ls′ count′ s ks
-  leaf-does e b = record { does = λ a t h f. builds-as (ap (λ (w : Stmt). build w count g r i (nets ls)) (is-leaf rows n a t h e)) b }
+-- The walk of a part that stands at row j and begins at cell k with the go g, where its statement was opened as o.
+abbrev inner : List ℕ → List ℕ → Opened → StmtNo → ℕ → CellNo → List ℕ → List ℕ → Task
+inner rows ms o j k g l ls = record { rows = rows; statics = ms; stmt = j; next = k; go = g; res = o .res; kill = o .kill; cells = l; lists = ls }
 
-  pub one-does : {l₁ l₂ l₃ ls′ : List ℕ} {n₁ n₂ n₃ : ℕ} {go other res kill s s′ : CellNo} {ks ks′ : List CellNo} {u : Unary} → rowAt rows n .head ≡ One u
-      → Opens (openOne u count g r i) l l₁ count n₁ go other res kill → Does rows ms (further n 1) n₁ go res kill l₁ l₂ ls ls′ n₂ s ks
-      → ClosesOne u count g r l₂ l₃ n₂ s ks n₃ s′ ks′ → Does rows ms n count g r i l l₃ ls ls′ n₃ s′ ks′
+-- What the walk is to build where the statement t stands.
+abbrev built : Task → Stmt → Built
+built w t = build t (w .next) (w .go) (w .res) (w .kill) (nets (w .lists))
+
+-- What it does at a row, from what its calls do.
+module _ {w : Task} where
+  pub leaf-does : {l′ ls′ : List ℕ} {b : Returned} {x : Leaf} → rowAt (w .rows) (w .stmt) .head ≡ Zero x
+      → Builds (built w (leaf x)) (w .cells) l′ ls′ (w .next) b → Does w l′ ls′ b
+  leaf-does e b = record { does = λ a t h f. builds-as (ap (built w) (is-leaf (w .rows) (w .stmt) a t h e)) b }
+
+  pub one-does : {l₁ l₂ l₃ ls′ : List ℕ} {o : Opened} {p b : Returned} {u : Unary} → rowAt (w .rows) (w .stmt) .head ≡ One u
+      → Opens (openOne u (w .next) (w .go) (w .res) (w .kill)) (w .cells) l₁ (w .next) o
+      → Does (inner (w .rows) (w .statics) o (further (w .stmt) 1) (o .count) (o .go) l₁ (w .lists)) l₂ ls′ p → ClosesOne u (w .next) (w .go) (w .res) l₂ l₃ p b → Does w l₃ ls′ b
   one-does {u = u} e o d c = record {
     does = λ a t h f.
-        let k = is-one rows n a t h e in
+        let k = is-one (w .rows) (w .stmt) a t h e in
         let p : Stmt = k .part in
-        let fit : Fit ms n (one u p) = subst (λ (w : Stmt). Fit ms n w) (k .is) f in
-        builds-as (ap (λ (w : Stmt). build w count g r i (nets ls)) (k .is)) (one-builds (nets ls) u p g r i o (d .does a p (k .holds) (fit-part u p fit)) c);
+        let fit : Fit (w .statics) (w .stmt) (one u p) = subst (λ (v : Stmt). Fit (w .statics) (w .stmt) v) (k .is) f in
+        builds-as (ap (built w) (k .is)) (one-builds (nets (w .lists)) u p (w .go) (w .res) (w .kill) o (d .does a p (k .holds) (fit-part u p fit)) c);
   }
 
-  pub two-does : {l₁ l₂ l₃ l₄ ls₁ ls₂ : List ℕ} {n₁ n₂ n₃ n₄ : ℕ} {go other res kill g₂ s₁ s₂ s : CellNo} {k₁ k₂ ks : List CellNo} {b : Binary} {j : StmtNo}
-      (keep : ℕ) → rowAt rows n .head ≡ Two b → Opens (openTwo b count g r i) l l₁ count n₁ go other res kill
-      → Does rows ms (further n 1) n₁ go res kill l₁ l₂ ls ls₁ n₂ s₁ k₁ → j ≡ rowAt rows (further n 1) .end → g₂ ≡ goOf b other k₁
-      → Does rows ms j n₂ g₂ res kill l₂ l₃ ls₁ ls₂ n₃ s₂ k₂ → ((w : Stmt) → Low w → Entered ms n w → has keep ≡ given w)
-      → ClosesTwo b (has keep) count g i l₃ l₄ n₂ s₁ k₁ n₃ s₂ k₂ n₄ s ks → Does rows ms n count g r i l l₄ ls ls₂ n₄ s ks
-  two-does {l₃ = l₃} {l₄ = l₄} {n₂ = n₂} {n₃ = n₃} {n₄ = n₄} {s₁ = s₁} {s₂ = s₂} {s = s} {k₁ = k₁} {k₂ = k₂} {ks = ks} {b = b} {j = j} keep e o d₁ ej eg d₂ kept c =
+  pub two-does : {l₁ l₂ l₃ l₄ ls₁ ls₂ : List ℕ} {o : Opened} {g : CellNo} {p q s : Returned} {b : Binary} {j : StmtNo} (keep : ℕ)
+      → rowAt (w .rows) (w .stmt) .head ≡ Two b → Opens (openTwo b (w .next) (w .go) (w .res) (w .kill)) (w .cells) l₁ (w .next) o
+      → Does (inner (w .rows) (w .statics) o (further (w .stmt) 1) (o .count) (o .go) l₁ (w .lists)) l₂ ls₁ p → j ≡ rowAt (w .rows) (further (w .stmt) 1) .end
+      → g ≡ goOf b (o .other) (p .codes) → Does (inner (w .rows) (w .statics) o j (p .count) g l₂ ls₁) l₃ ls₂ q
+      → ((t : Stmt) → Low t → Entered (w .statics) (w .stmt) t → has keep ≡ given t)
+      → ClosesTwo b (has keep) (record { start = w .next; go = w .go; kill = w .kill }) l₃ l₄ p q s → Does w l₄ ls₂ s
+  two-does {l₃ = l₃} {l₄ = l₄} {p = p} {q = q} {s = s} {b = b} {j = j} keep e o d₁ ej eg d₂ kept c =
       record {
         does = λ a t h f.
-            let k = is-two rows n a t h e in
-            let p : Stmt = k .left in
-            let q : Stmt = k .right in
-            let fit : Fit ms n (two b p q) = subst (λ (w : Stmt). Fit ms n w) (k .is) f in
-            let place : j ≡ further n (1 + size p) = ej ∙ k .second in
-            let holds : Holds rows j (haltsOn a (haltCount p)) q = subst⁻¹ (λ (w : StmtNo). Holds rows w (haltsOn a (haltCount p)) q) place (k .holds-right) in
-            let right : Fit ms j q = subst⁻¹ (λ (w : StmtNo). Fit ms w q) place (fit-right b p q fit) in
-            let closed : ClosesTwo b (given (two b p q)) count g i l₃ l₄ n₂ s₁ k₁ n₃ s₂ k₂ n₄ s ks =
-            subst (λ (w : ℕ → Bool). ClosesTwo b w count g i l₃ l₄ n₂ s₁ k₁ n₃ s₂ k₂ n₄ s ks) (kept (two b p q) (fit .low) (entry b p q fit)) c in
-            builds-as (ap (λ (w : Stmt). build w count g r i (nets ls)) (k .is))
-            (two-builds (nets ls) b p q g r i o (d₁ .does a p (k .holds-left) (fit-left b p q fit)) eg
-            (d₂ .does (haltsOn a (haltCount p)) q holds right) closed);
+            let rows : List ℕ = w .rows in
+            let k = is-two rows (w .stmt) a t h e in
+            let x : Stmt = k .left in
+            let y : Stmt = k .right in
+            let fit : Fit (w .statics) (w .stmt) (two b x y) = subst (λ (v : Stmt). Fit (w .statics) (w .stmt) v) (k .is) f in
+            let place : j ≡ further (w .stmt) (1 + size x) = ej ∙ k .second in
+            let holds : Holds rows j (haltsOn a (haltCount x)) y = subst⁻¹ (λ (v : StmtNo). Holds rows v (haltsOn a (haltCount x)) y) place (k .holds-right) in
+            let right : Fit (w .statics) j y = subst⁻¹ (λ (v : StmtNo). Fit (w .statics) v y) place (fit-right b x y fit) in
+            let around : Begun = record { start = w .next; go = w .go; kill = w .kill } in
+            let closed : ClosesTwo b (given (two b x y)) around l₃ l₄ p q s =
+            subst (λ (v : ℕ → Bool). ClosesTwo b v around l₃ l₄ p q s) (kept (two b x y) (fit .low) (entry b x y fit)) c in
+            builds-as (ap (built w) (k .is))
+            (two-builds (nets (w .lists)) b x y (w .go) (w .res) (w .kill) o (d₁ .does a x (k .holds-left) (fit-left b x y fit)) eg
+            (d₂ .does (haltsOn a (haltCount x)) y holds right) closed);
       }
 
 -- That its calls may be made: there is a statement at each of their rows, and room for their cells.
 open-one-few : (u : Unary) (n : ℕ) (g r i : CellNo) → length ((openOne u n g r i) .cells) ≤ 2
 open-one-few Loop n g r i = omega arith
-open-one-few (Watching s) n g r i = omega (arith, butnot-few n r (signalCell s))
+open-one-few (Watching s) n g r i = omega (arith, gate-few Butnot n r (signalCell s))
 open-one-few Trap n g r i = omega arith
 open-one-few (Signal s) n g r i = omega arith
 
@@ -98,22 +116,23 @@ open-two-few Sequence n g r i = omega arith
 open-two-few (Present s) n g r i =
     let x : New = andAt n g (signalCell s) in
     let y : New = butnotAt (past n x) g (signalCell s) in
-    omega (arith, length-append (x .cells) (y .cells), and-few n g (signalCell s), butnot-few (past n x) g (signalCell s))
+    omega (arith, length-append (x .cells) (y .cells), gate-few And n g (signalCell s), gate-few Butnot (past n x) g (signalCell s))
 open-two-few Parallel n g r i = omega arith
 
--- a part's cells are few
-part-few : (ms : List ℕ) (m : StmtNo) (p : Stmt) (n : ℕ) (g r i : CellNo) (L : List CellNo) {l l′ ls : List ℕ} {n′ : ℕ} {s : CellNo} {ks : List CellNo}
-    → Fit ms m p → Builds (build p n g r i L) l l′ ls n n′ s ks → n′ ≤ n + 32 * size p
-part-few ms m p n g r i L f b = omega (arith, b .wrote .counted, sized p n g r i L (f .low) .few)
+-- what a walk builds has few cells
+does-few : {w : Task} {l′ ls′ : List ℕ} {b : Returned} (a : HaltNo) (p : Stmt) → Holds (w .rows) (w .stmt) a p → Fit (w .statics) (w .stmt) p → Does w l′ ls′ b
+    → b .count ≤ w .next + ownCells * size p
+does-few {w} a p h f d =
+    omega (arith, d .does a p h f .wrote .counted, sized p (w .next) (w .go) (w .res) (w .kill) (nets (w .lists)) (f .low) .few)
 
-module _ {rows ms ls : List ℕ} {n : StmtNo} {count : ℕ} (ready : Ready rows ms ls n count) where
+module _ {rows ms ls : List ℕ} {n : StmtNo} {count : ℕ} (ready : Buildable rows ms ls n count) where
   pub ready-within : ofStmt n < length rows
   ready-within = within rows n (ready .first) (ready .stmt) (ready .holds)
 
   pub ready-number : ofStmt n < 4096
   ready-number = omega (arith, few-numbers rows n (ready .first) (ready .stmt) (ready .holds))
 
-  pub ready-open : count + 32 < 65536
+  pub ready-open : count + ownCells < 65536
   ready-open = omega (arith, size-pos (ready .stmt), ready .room)
 
   pub ready-leaf : {x : Leaf} → rowAt rows n .head ≡ Zero x → LowLeaf x × LeafNamed x
@@ -140,8 +159,8 @@ module _ {rows ms ls : List ℕ} {n : StmtNo} {count : ℕ} (ready : Ready rows 
     unfolding Named
     ready-unary = fit-one .named .0
 
-    module _ {l l₁ : List ℕ} {n₁ : ℕ} {go other res kill : CellNo} (g r i : CellNo) (o : Opens (openOne u count g r i) l l₁ count n₁ go other res kill) where
-      pub ready-one : Ready rows ms ls (further n 1) n₁
+    module _ {l l₁ : List ℕ} {o : Opened} (g r i : CellNo) (opens : Opens (openOne u count g r i) l l₁ count o) where
+      pub ready-one : Buildable rows ms ls (further n 1) (o .count)
       ready-one =
           record {
             first = ready .first;
@@ -149,18 +168,16 @@ module _ {rows ms ls : List ℕ} {n : StmtNo} {count : ℕ} (ready : Ready rows 
             holds = the-one .holds;
             fit = there-one;
             lists = ready .lists;
-            room = omega (arith, o .wrote .counted, open-one-few u count g r i, ready .room, size-one);
+            room = omega (arith, opens .wrote .counted, open-one-few u count g r i, ready .room, size-one);
           }
 
-      pub ready-close-one : {l₂ ls′ : List ℕ} {n₂ : ℕ} {s : CellNo} {ks : List CellNo} → Does rows ms (further n 1) n₁ go res kill l₁ l₂ ls ls′ n₂ s ks
-          → n₂ + 3 < 65536
+      pub ready-close-one : {l₂ ls′ : List ℕ} {p : Returned} → Does (inner rows ms o (further n 1) (o .count) (o .go) l₁ ls) l₂ ls′ p
+          → p .count + 3 < 65536
       ready-close-one d =
-          let built = d .does (ready .first) (the-one .part) (the-one .holds) there-one in
           omega (
             arith,
-            part-few ms (further n 1) (the-one .part) n₁ go res kill
-                (nets ls) there-one built,
-            o .wrote .counted,
+            does-few (ready .first) (the-one .part) (the-one .holds) there-one d,
+            opens .wrote .counted,
             open-one-few u count g r i,
             ready .room,
             size-one,
@@ -187,11 +204,11 @@ module _ {rows ms ls : List ℕ} {n : StmtNo} {count : ℕ} (ready : Ready rows 
     pub ready-sets : ofStmt n < length ms
     ready-sets = entry b (the-two .left) (the-two .right) fit-two .inside
 
-    pub ready-first : ofStmt (further n 1) < length rows
+    pub ready-first : ofStmt n + 1 < length rows
     ready-first = within rows (further n 1) (ready .first) (the-two .left) (the-two .holds-left)
 
-    module _ {l l₁ : List ℕ} {n₁ : ℕ} {go other res kill : CellNo} (g r i : CellNo) (o : Opens (openTwo b count g r i) l l₁ count n₁ go other res kill) where
-      pub ready-left : Ready rows ms ls (further n 1) n₁
+    module _ {l l₁ : List ℕ} {o : Opened} (g r i : CellNo) (opens : Opens (openTwo b count g r i) l l₁ count o) where
+      pub ready-left : Buildable rows ms ls (further n 1) (o .count)
       ready-left =
           record {
             first = ready .first;
@@ -199,15 +216,13 @@ module _ {rows ms ls : List ℕ} {n : StmtNo} {count : ℕ} (ready : Ready rows 
             holds = the-two .holds-left;
             fit = there-left;
             lists = ready .lists;
-            room = omega (arith, o .wrote .counted, open-two-few b count g r i, ready .room, size-two);
+            room = omega (arith, opens .wrote .counted, open-two-few b count g r i, ready .room, size-two);
           }
 
-      module _ {l₂ ls₁ : List ℕ} {n₂ : ℕ} {s₁ : CellNo} {k₁ : List CellNo} (d₁ : Does rows ms (further n 1) n₁ go res kill l₁ l₂ ls ls₁ n₂ s₁ k₁)
-          {j : StmtNo} (ej : j ≡ rowAt rows (further n 1) .end) where
-        left-few : n₂ ≤ n₁ + 32 * size (the-two .left)
-        left-few =
-            part-few ms (further n 1) (the-two .left) n₁ go res kill (nets ls) there-left
-            (d₁ .does (ready .first) (the-two .left) (the-two .holds-left) there-left)
+      module _ {l₂ ls₁ : List ℕ} {p : Returned} (d₁ : Does (inner rows ms o (further n 1) (o .count) (o .go) l₁ ls) l₂ ls₁ p) {j : StmtNo}
+          (ej : j ≡ rowAt rows (further n 1) .end) where
+        left-few : p .count ≤ o .count + ownCells * size (the-two .left)
+        left-few = does-few (ready .first) (the-two .left) (the-two .holds-left) there-left d₁
 
         place : j ≡ further n (1 + size (the-two .left))
         place = ej ∙ the-two .second
@@ -219,7 +234,7 @@ module _ {rows ms ls : List ℕ} {n : StmtNo} {count : ℕ} (ready : Ready rows 
         fit-there : Fit ms j (the-two .right)
         fit-there = subst⁻¹ (λ (w : StmtNo). Fit ms w (the-two .right)) place (fit-right b (the-two .left) (the-two .right) fit-two)
 
-        pub ready-right : length ls₁ ≡ 64 → Ready rows ms ls₁ j n₂
+        pub ready-right : length ls₁ ≡ maxSignals → Buildable rows ms ls₁ j (p .count)
         ready-right long =
             record {
               first = haltsOn (ready .first) (haltCount (the-two .left));
@@ -227,23 +242,21 @@ module _ {rows ms ls : List ℕ} {n : StmtNo} {count : ℕ} (ready : Ready rows 
               holds = holds-there;
               fit = fit-there;
               lists = long;
-              room = omega (arith, left-few, o .wrote .counted, open-two-few b count g r i, ready .room, size-two);
+              room = omega (arith, left-few, opens .wrote .counted, open-two-few b count g r i, ready .room, size-two);
             }
 
         -- the second part stands further on
         pub further-on : ofStmt n < ofStmt j
-        further-on = let p : ofStmt j ≡ ofStmt n + (1 + size (the-two .left)) = ap ofStmt place in omega arith
+        further-on = let e : ofStmt j ≡ ofStmt n + (1 + size (the-two .left)) = ap ofStmt place in omega arith
 
-        pub ready-close-two : {l₃ ls₂ : List ℕ} {n₃ : ℕ} {g₂ s₂ : CellNo} {k₂ : List CellNo} → Does rows ms j n₂ g₂ res kill l₂ l₃ ls₁ ls₂ n₃ s₂ k₂
-            → n₃ + 30 < 65536
-        ready-close-two {g₂ = g₂} d₂ =
-            let built = d₂ .does (haltsOn (ready .first) (haltCount (the-two .left))) (the-two .right) holds-there fit-there in
+        pub ready-close-two : {l₃ ls₂ : List ℕ} {g₂ : CellNo} {q : Returned} → Does (inner rows ms o j (p .count) g₂ l₂ ls₁) l₃ ls₂ q
+            → q .count + (1 + parallelCells) < 65536
+        ready-close-two d₂ =
             omega (
               arith,
-              part-few ms j (the-two .right) n₂ g₂ res kill
-                  (nets ls₁) fit-there built,
+              does-few (haltsOn (ready .first) (haltCount (the-two .left))) (the-two .right) holds-there fit-there d₂,
               left-few,
-              o .wrote .counted,
+              opens .wrote .counted,
               open-two-few b count g r i,
               ready .room,
               size-two,

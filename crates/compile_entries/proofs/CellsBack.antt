@@ -9,48 +9,35 @@ use borrow.Author.Tests.{le-ltb}
 use Rattle.number.specs.declared.CellNo.{CellNo}
 use Rattle.number.specs.Counts.{cellNo}
 use Rattle.number.specs.Number.{pick}
-use Rattle.gates.specs.declared.Cell.{Cell}
-use Rattle.gates.specs.declared.Cell.the-variants.{Low, High, Input, Or, And, Butnot, Register}
-use Rattle.gates.specs.Store.{word, cellIn}
-use Rattle.gates.specs.Values.{tally, registers}
-use Rattle.gates.proofs.Operands.{AllWithin}
-use Rattle.gates.proofs.Words.{cell-in-word}
-use Rattle.order.specs.Paths.{cellsOf, Ordered}
-use Rattle.order.proofs.Closing.{all-wider}
+use Rattle.limits.specs.Limits.{maxSignals, maxRegisters}
+use Rattle.cells.specs.declared.Cell.{Cell}
+use Rattle.cells.specs.Cells.{kindOf, nextCell}
+use Rattle.cells.specs.Words.{word, cellIn}
+use Rattle.cells.specs.Values.{tally, registers}
+use Rattle.cells.specs.Netlist.{Netlist, kindFits, operandsFit, cellsFit, WellFormed}
+use Rattle.cells.proofs.Within.{AllWithin}
+use Rattle.cells.proofs.Words.{kind-low, word-kind, cell-in-word, words-mean}
+use Rattle.cells.proofs.Counting.{tally-sum}
+use Rattle.cells.proofs.Fitting.{room-tally, formed-small}
+use Rattle.order.specs.Paths.{Ordered}
 use Rattle.sheet.specs.Read.{Sheet}
-use Rattle.builder.specs.Netlist.{sheetNetlist}
+use Rattle.builder.specs.Netlist.{sheetNetlist, sheetFile}
 use Rattle.compiler.specs.Check.{Accepted, accepted as sheet-accepted}
 use Rattle.interpreter.proofs.Interpreting.{accepted-proper}
 use Rattle.files.specs.declared.Judgement.the-variants.{Right}
-use Rattle.files.specs.File.{Netlist, sheetFile, kindOf, kindFits, operandsFit, nextCell, cellsFit, WellFormed}
 use Rattle.files.specs.Judge.{judgeCount, judgeKind}
 use Rattle.files.specs.Read.{netlist}
-use Rattle.files.proofs.Judging.{right-count, right-kind, room-tally, tally-sum, kind-low, and-left, and-right, all-within}
-use Rattle.files.proofs.OfSheets.{built-well-formed}
+use Rattle.number.proofs.Bools.{and-left, and-right}
+use Rattle.files.proofs.Judging.{right-count, right-kind}
+use Rattle.compiler.proofs.OfSheets.{built-well-formed}
 use Rattle.files.proofs.Sound.{read-well-formed}
 use Rattle.netlists.specs.Words.{judgeWord, unless, judgeWords, atZero, judgeCells}
 use Rattle.netlists.specs.Check.{accepted, ChecksFile, ChecksCells}
 use Rattle.netlists.proofs.Words.{word-right}
 use Rattle.compile_entries.proofs.CompileEntries.{accepted-few}
 
--- a word has its cell's kind
-word-kind : (c : Cell) → word c % 8 ≡ kindOf c
-word-kind Low = refl
-word-kind High = refl
-word-kind (Input s) = omega arith
-word-kind (Or x y) = omega arith
-word-kind (And x y) = omega arith
-word-kind (Butnot x y) = omega arith
-word-kind (Register x) = omega arith
-
--- the words mean the cells
-words-mean : (cs : List Cell) → AllWithin 65536 65536 cs → cellsOf (map word cs) ≡ cs
-unfolding AllWithin
-words-mean [] h = refl
-words-mean (c ∷ cs) h = rw (cell-in-word c (h .0), words-mean cs (h .1))
-
 -- nothing is wrong with the words from cell x on, with k registers before it
-words-right : (I m : ℕ) (x : CellNo) (k : ℕ) (cs : List Cell) → AllWithin 65536 65536 cs → cellsFit I m x cs ≡ true → k + registers cs ≤ 64
+words-right : (I m : ℕ) (x : CellNo) (k : ℕ) (cs : List Cell) → AllWithin 65536 65536 cs → cellsFit I m x cs ≡ true → k + registers cs ≤ maxRegisters
     → judgeWords I m x k (map word cs) ≡ Right
 unfolding AllWithin cellsFit registers judgeWords unless
 words-right I m x k [] h fit bits = refl
@@ -59,7 +46,7 @@ words-right I m x k (c ∷ cs) h fit bits =
     let here = and-left (kindFits I x (kindOf c) && operandsFit m x c) (cellsFit I m (nextCell x) cs) fit in
     let kind = and-left (kindFits I x (kindOf c)) (operandsFit m x c) here in
     let operands = and-right (kindFits I x (kindOf c)) (operandsFit m x c) here in
-    let after : tally c k + registers cs ≤ 64 = omega (arith, tally-sum c k (registers cs)) in
+    let after : tally c k + registers cs ≤ maxRegisters = omega (arith, tally-sum c k (registers cs)) in
     let right : judgeKind I x k (word c % 8) ≡ Right =
     rw (word-kind c) (right-kind (record { low = kind-low c; room = room-tally c k (omega arith); fits = kind })) in
     let this : judgeWord I m x k (word c) ≡ Right = word-right I m x k (word c) right (rw back operands) (ap word back) in
@@ -68,18 +55,12 @@ words-right I m x k (c ∷ cs) h fit bits =
     (and-right (kindFits I x (kindOf c) && operandsFit m x c) (cellsFit I m (nextCell x) cs) fit) after)
 
 module _ {w : Netlist} (h : WellFormed w) where
-  small : AllWithin 65536 65536 (w .cells)
-  small =
-      let m : ℕ = length (w .cells) in
-      all-wider (1 + w .inputs) m 65536 65536 (w .cells) (omega (arith, h .signals)) (omega (arith, h .few))
-      (all-within (w .inputs) m (cellNo 0) (w .cells) (h .fit))
-
   cells-back : judgeCells (w .inputs) (w .outputs) (map word (w .cells)) ≡ netlist w
   unfolding judgeCells unless atZero pick
   cells-back =
-      let all = words-right (w .inputs) (length (w .cells)) (cellNo 0) 0 (w .cells) small (h .fit) (omega (arith, h .bits)) in
+      let all = words-right (w .inputs) (length (w .cells)) (cellNo 0) 0 (w .cells) (formed-small h) (h .fit) (omega (arith, h .bits)) in
       let count : judgeCount (w .inputs) (w .outputs) (length (w .cells)) ≡ Right = right-count (record { few = h .few; enough = h .enough }) in
-      rw (le-ltb 64 (1 + w .inputs + w .outputs) (h .signals), length-map (w .cells) word, count, all, words-mean (w .cells) small)
+      rw (le-ltb maxSignals (1 + w .inputs + w .outputs) (h .signals), length-map (w .cells) word, count, all, words-mean (w .cells) (formed-small h))
 
   pub cells-accepted : {order : List ℕ} → Ordered (w .cells) order → ChecksCells (w .inputs) (w .outputs) (map word (w .cells)) (netlist w)
   cells-accepted {order} ordered = accepted order cells-back ordered

@@ -6,15 +6,14 @@ use native.Mathlib.Omega.{arith}
 use lib.ListN.{length, take}
 use lib.Seq.{length-take-le}
 use Rattle.number.specs.declared.Fault.{Fault}
-use Rattle.gates.specs.Store.{word}
+use Rattle.limits.specs.Limits.{maxCells}
+use Rattle.cells.specs.Words.{word, cellsOf}
+use Rattle.cells.specs.Netlist.{netlistOf, WellFormed}
 use Rattle.sheet.specs.declared.Counts.{Counts}
 use Rattle.sheet.specs.Read.{Sheet, sheet, faulty}
-use Rattle.builder.specs.Netlist.{sheetNetlist}
-use Rattle.order.specs.Paths.{cellsOf}
-use Rattle.files.specs.File.{sheetFile, WellFormed}
+use Rattle.builder.specs.Netlist.{sheetNetlist, sheetFile}
 use Rattle.files.specs.Read.{netlist}
-use Rattle.files.proofs.OfSheets.{built-well-formed}
-use Rattle.netlists.specs.Words.{netlistOf}
+use Rattle.compiler.proofs.OfSheets.{built-well-formed}
 use Rattle.compiler.specs.Check.{Checks, Accepted, accepted}
 use Rattle.compiler.proofs.Passing.{judged-read}
 use Rattle.interpreter.proofs.Interpreting.{Compiled-as, accepted-proper}
@@ -29,8 +28,8 @@ use Rattle.netlist_entries.proofs.FileEntries.{filed-refused}
 use Rattle.netlist_entries.proofs.CellEntries.{handed-refused}
 use Rattle.compile_entries.specs.Compile.{sheetNet, Written, Listed}
 
--- an accepted sheet has at most 1,024 cells
-pub accepted-few : {s : List ℕ} {w : Sheet} → Accepted s w → length (sheetNetlist w) ≤ 1024
+-- an accepted sheet has no more cells than there may be
+pub accepted-few : {s : List ℕ} {w : Sheet} → Accepted s w → length (sheetNetlist w) ≤ maxCells
 accepted-few (accepted order judged ordered) = judged-read judged .passes .few
 
 -- the sheet's own fault: nothing is written
@@ -44,26 +43,26 @@ module _ {s : List ℕ} {f : Fault} (was : Checks s (faulty f)) where
   listed-refused = record { outcome = faulty f; checks = was; handed = handed-refused }
 
 -- the compiled cells are a well-formed netlist, that of the sheet, and the column has their words
-module _ {s rows sets cells : List ℕ} {c : Counts} {n : ℕ} (a : Compiled-as s c n rows sets cells) where
-  few : length (sheetNetlist (a .read)) ≤ 1024
+module _ {s rows statics cells : List ℕ} {c : Counts} {n : ℕ} (a : Compiled-as s c n rows statics cells) where
+  few : length (sheetNetlist (a .read)) ≤ maxCells
   few = accepted-few (a .accepts)
 
-  pub n-few : n ≤ 1024
-  n-few = omega (arith, a .is .count, few)
+  pub n-few : n ≤ maxCells
+  n-few = omega (arith, a .count, few)
 
   cells-are : cellsOf (take n cells) ≡ sheetNetlist (a .read)
-  cells-are = ap (λ (k : ℕ). cellsOf (take k cells)) (a .is .count) ∙ a .own .means
+  cells-are = ap (λ (k : ℕ). cellsOf (take k cells)) (a .count) ∙ a .own .means
 
   file-is : netlistOf (c .inputs) (c .outputs) (take n cells) ≡ sheetFile (a .read)
-  file-is = rw (a .is .counts, cells-are)
+  file-is = rw (a .counts, cells-are)
 
   pub sheet-well-formed : WellFormed (netlistOf (c .inputs) (c .outputs) (take n cells))
   sheet-well-formed = rw file-is (built-well-formed (a .read) (accepted-proper (a .accepts)) few)
 
   pub sheet-packed : map word (cellsOf (take n cells)) ≡ take n cells
-  sheet-packed = ap (map word) cells-are ∙ sym (a .own .stored) ∙ ap (λ (k : ℕ). take k cells) (sym (a .is .count))
+  sheet-packed = ap (map word) cells-are ∙ sym (a .own .stored) ∙ ap (λ (k : ℕ). take k cells) (sym (a .count))
 
-  module _ (long : length cells ≡ 1024) where
+  module _ (long : length cells ≡ maxCells) where
     pub prefix-long : n ≡ length (take n cells)
     prefix-long = sym (length-take-le n cells (omega (arith, n-few)))
 

@@ -3,7 +3,7 @@ use mathlib.Core.List.{List}
 use Prim.Native.Nat.{ℕ}
 use Rattle.sheet.specs.Read.{SheetOutcome, sheet, faulty as faultySheet}
 use Rattle.compiler.specs.Check.{Checks}
-use Rattle.files.specs.File.{sheetFile}
+use Rattle.builder.specs.Netlist.{sheetFile}
 use Rattle.files.specs.Read.{FileOutcome, netlist, faulty}
 use Rattle.verdicts.specs.declared.Answer.{Answer}
 use Rattle.verdicts.specs.declared.Listing.{Listing}

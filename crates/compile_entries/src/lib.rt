@@ -8,10 +8,10 @@ ghost use Rattle.compile_entries.specs.Compile.{Written, Listed};
 pub fn compile(s: &[u8], buffer: &mut [u8]) -> Answer
     ensures { λ r. ⌜ Written (now (s .entry)) r (now (buffer .entry)) (now (buffer .exit)) ⌝ }
 {
-    let mut rows = [0u64; 256];
-    let mut sets = [0u64; 256];
-    let mut cells = [0u64; 1024];
-    match compiler::compile(s, &mut rows, &mut sets, &mut cells) {
+    let mut rows = [0u64; limits::MAX_STATEMENTS];
+    let mut statics = [0u64; limits::MAX_STATEMENTS];
+    let mut cells = [0u64; limits::MAX_CELLS];
+    match compiler::compile(s, &mut rows, &mut statics, &mut cells) {
         Compiled::Refused(f) => verdicts::refusal(f),
         Compiled::Program(c, n) => netlist_entries::written(
             c.statements,
@@ -27,10 +27,10 @@ pub fn compile(s: &[u8], buffer: &mut [u8]) -> Answer
 pub fn compile_cells(s: &[u8], words: &mut [u64]) -> Listing
     ensures { λ r. ⌜ Listed (now (s .entry)) r (now (words .entry)) (now (words .exit)) ⌝ }
 {
-    let mut rows = [0u64; 256];
-    let mut sets = [0u64; 256];
-    let mut cells = [0u64; 1024];
-    match compiler::compile(s, &mut rows, &mut sets, &mut cells) {
+    let mut rows = [0u64; limits::MAX_STATEMENTS];
+    let mut statics = [0u64; limits::MAX_STATEMENTS];
+    let mut cells = [0u64; limits::MAX_CELLS];
+    match compiler::compile(s, &mut rows, &mut statics, &mut cells) {
         Compiled::Refused(f) => verdicts::with_signals(verdicts::refusal(f), 0, 0),
         Compiled::Program(c, n) => netlist_entries::handed(
             c.statements,

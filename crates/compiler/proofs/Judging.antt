@@ -4,13 +4,13 @@ use mathlib.Core.Bool.{Bool, true, false}
 use mathlib.Core.List.{List}
 use Prim.Native.Nat.{ℕ, _≤_}
 use native.Mathlib.Omega.{arith}
-use lib.Dec.{ltb}
 use lib.ListN.{length}
 use Rattle.number.specs.declared.Refusal.the-variants.{Instant, Twice}
 use Rattle.number.specs.declared.StmtNo.{StmtNo}
 use Rattle.number.specs.Counts.{stmtNo, ofStmt, haltNo}
 use Rattle.number.specs.Number.{pick}
 use Rattle.number.specs.Refusals.{fault}
+use Rattle.limits.specs.Limits.{maxStatements, manyCells}
 use Rattle.sheet.specs.declared.Counts.{Counts}
 use Rattle.sheet.specs.Stmt.{Stmt}
 use Rattle.sheet.specs.Read.{Sheet}
@@ -27,8 +27,8 @@ use Rattle.builder.specs.declared.NetlistBuilt.the-variants.{Refused}
 use Rattle.builder.specs.Netlist.{sheetNetlist}
 use Rattle.builder.specs.Contract.{OfSheet, SomeSheet, roomFor, Whole, DoesNetlist}
 use Rattle.compiler.specs.Check.{unless, roomy, judged}
-use Rattle.compiler.proofs.Passing.{faulty-sheet}
 use Rattle.compiler.specs.Compile.{ReadAs, builtOf, Judges}
+use Rattle.compiler.proofs.Passing.{faulty-sheet}
 
 abbrev root : StmtNo
 root = stmtNo 0
@@ -36,9 +36,9 @@ root = stmtNo 0
 -- ROOM answers as the builder does
 room-answer : (w : Sheet) → roomFor (length (sheetNetlist w)) ≡ builtOf (roomy w)
 unfolding roomFor roomy builtOf pick
-room-answer w = cases (ltb 1024 (length (sheetNetlist w))) refl
+room-answer w = cases (manyCells (length (sheetNetlist w))) refl
   where
-    cases : (b : Bool) → ltb 1024 (length (sheetNetlist w)) ≡ b → roomFor (length (sheetNetlist w)) ≡ builtOf (roomy w)
+    cases : (b : Bool) → manyCells (length (sheetNetlist w)) ≡ b → roomFor (length (sheetNetlist w)) ≡ builtOf (roomy w)
     cases true e = rw e
     cases false e = rw e
 
@@ -47,7 +47,7 @@ module _ {rows : List ℕ} {c : Counts} {w : Sheet} (is : ReadAs rows c w) where
   stands = record { first = haltNo 0; stmt = w .root; holds = is .holds; low = exits-low 0 (w .root) (omega arith) (proper-exits (is .proper)) }
 
   -- the column that was filled has the sheet's K and R
-  filled-keeps : {b : Both} {before after : List ℕ} → 256 ≤ length before → ((s : Stands rows root) → Filled root (s .stmt) b before after)
+  filled-keeps : {b : Both} {before after : List ℕ} → maxStatements ≤ length before → ((s : Stands rows root) → Filled root (s .stmt) b before after)
       → Kept after root (w .root)
   unfolding stands
   filled-keeps {before = before} room fills =
@@ -56,7 +56,7 @@ module _ {rows : List ℕ} {c : Counts} {w : Sheet} (is : ReadAs rows c w) where
   of-sheet : {ms : List ℕ} → Kept ms root (w .root) → OfSheet rows ms (c .inputs) (c .signals) (w .outputs) (w .root)
   of-sheet kept = record { proper = rw (is .counts) (is .proper); signals = rw (is .counts); holds = is .holds; kept = kept }
 
-  module _ {before after : List ℕ} {b : Both} (room : 256 ≤ length before) (fills : (s : Stands rows root) → Filled root (s .stmt) b before after) where
+  module _ {before after : List ℕ} {b : Both} (room : maxStatements ≤ length before) (fills : (s : Stands rows root) → Filled root (s .stmt) b before after) where
     kept : Kept after root (w .root)
     kept = filled-keeps room fills
 

@@ -3,3 +3,4 @@ pub mod Judging
 pub mod Finishing
 pub mod Whole
 pub mod Unique
+pub mod OfSheets

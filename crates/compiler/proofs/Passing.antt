@@ -4,7 +4,6 @@ use mathlib.Core.Bool.{Bool, true, false}
 use mathlib.Core.List.{List}
 use Prim.Native.Nat.{ℕ, _≤_}
 use native.Mathlib.Omega.{arith}
-use lib.Dec.{ltb}
 use borrow.Author.Tests.{ltb-false}
 use lib.ListN.{length}
 use Rattle.number.specs.declared.Fault.{Fault}
@@ -12,6 +11,7 @@ use Rattle.number.specs.declared.Refusal.{Refusal}
 use Rattle.number.specs.declared.Refusal.the-variants.{Instant, Twice}
 use Rattle.number.specs.Counts.{stmtNo}
 use Rattle.number.specs.Number.{pick}
+use Rattle.limits.specs.Limits.{maxCells, manyCells}
 use Rattle.sheet.specs.Read.{Sheet, SheetOutcome, sheet, faulty, readSheet}
 use Rattle.sets.specs.declared.Found.{Found}
 use Rattle.sets.specs.declared.Found.the-variants.{At, Clear}
@@ -37,13 +37,13 @@ pub record Passed (v w : Sheet) : Type 0 where
   pub same : v ≡ w
   pub no-instant : instant (stmtNo 0) (v .root) ≡ Clear
   pub no-twice : twice (stmtNo 0) (v .root) ≡ Clear
-  pub few : length (sheetNetlist v) ≤ 1024
+  pub few : length (sheetNetlist v) ≤ maxCells
 
 record Roomed (v w : Sheet) : Type 0 where
   same : v ≡ w
-  few : length (sheetNetlist v) ≤ 1024
+  few : length (sheetNetlist v) ≤ maxCells
 
-roomed : (v : Sheet) {w : Sheet} (b : Bool) → ltb 1024 (length (sheetNetlist v)) ≡ b → roomy v ≡ sheet w → Roomed v w
+roomed : (v : Sheet) {w : Sheet} (b : Bool) → manyCells (length (sheetNetlist v)) ≡ b → roomy v ≡ sheet w → Roomed v w
 unfolding roomy pick
 roomed v true full e = faulty-sheet (rw full at e)
 roomed v false free e = let same : sheet v ≡ sheet _ = rw free at e in record { same = cc; few = ltb-false _ _ free }
@@ -53,7 +53,7 @@ unfolding judged
 passed v e =
     let first = went Instant (instant (stmtNo 0) (v .root)) _ e in
     let second = went Twice (twice (stmtNo 0) (v .root)) (roomy v) (first .on) in
-    let room = roomed v (ltb 1024 (length (sheetNetlist v))) refl (second .on) in
+    let room = roomed v (manyCells (length (sheetNetlist v))) refl (second .on) in
     record { same = room .same; no-instant = first .clear; no-twice = second .clear; few = room .few }
 
 -- .. and it was read

@@ -4,30 +4,33 @@ use mathlib.Core.List.{List, map}
 use Prim.Native.Nat.{ℕ, _+_, _≤_}
 use native.Mathlib.Omega.{arith}
 use lib.ListN.{length, take}
-use lib.Seq.{sets, length-take-le}
+use lib.Seq.{length-take-le}
 use Rattle.number.specs.declared.Fault.{Fault}
 use Rattle.number.specs.Counts.{stmtNo, haltNo}
+use Rattle.limits.specs.Limits.{maxStatements, maxCells}
 use Rattle.sheet.specs.declared.Counts.{Counts}
 use Rattle.sheet.specs.declared.SheetRead.{SheetRead}
 use Rattle.sheet.specs.declared.SheetRead.the-variants.{Read, Refused as NotRead}
 use Rattle.sheet.specs.Read.{Sheet, SheetOutcome, sheet, faulty, readSheet}
 use Rattle.sheet.specs.Rows.{lay, Holds}
-use Rattle.sheet.specs.Answer.{sheetAnswer, SheetLaid, DidSheet}
+use Rattle.sheet.specs.Answer.{sheetAnswer}
+use Rattle.sheet.specs.Contract.{SheetLaid, DidSheet}
 use Rattle.sheet.proofs.ProperRead.{proper}
 use Rattle.sheet.proofs.Walk.{holds-proper}
-use Rattle.gates.specs.Store.{word}
-use Rattle.gates.proofs.Operands.{AllWithin}
+use Rattle.cells.specs.Words.{word, cellsOf}
+use Rattle.cells.specs.Needs.{Closed}
+use Rattle.cells.proofs.Within.{AllWithin, all-wider}
+use Rattle.cells.proofs.Needing.{closed}
+use Rattle.cells.proofs.Words.{stored-cells}
 use Rattle.builder.specs.declared.NetlistBuilt.{NetlistBuilt}
 use Rattle.builder.specs.declared.NetlistBuilt.the-variants.{Cells, Refused as NotBuilt}
 use Rattle.builder.specs.Netlist.{sheetNetlist}
 use Rattle.builder.proofs.Format.{stored-whole, sheet-closed}
-use Rattle.order.specs.Paths.{cellsOf, Closed}
 use Rattle.compiler.specs.declared.Compiled.{Compiled}
 use Rattle.compiler.specs.declared.Compiled.the-variants.{Program, Refused}
 use Rattle.compiler.specs.Check.{judged, judge, refused, cyclic, accepted}
 use Rattle.compiler.specs.Compile.{ReadAs, SomeRead, builtOf, Judges, JudgesRead, Finishes, found, cycle, Compiles, compiledOf, DidCompile}
 use Rattle.compiler.proofs.Passing.{faulty-sheet, passed}
-use Rattle.order.proofs.Closing.{closed, stored-cells}
 
 -- the bytes were read as a sheet, which the rows hold
 pub record WasRead (s rows : List ℕ) (c : Counts) : Type 0 where
@@ -35,7 +38,7 @@ pub record WasRead (s rows : List ℕ) (c : Counts) : Type 0 where
   pub read : readSheet s ≡ sheet w
   pub is : ReadAs rows c w
 
-module _ {s before after : List ℕ} (room : 256 ≤ length before) where
+module _ {s before after : List ℕ} (room : maxStatements ≤ length before) where
   was-read : (o : SheetOutcome) {c : Counts} → readSheet s ≡ o → DidSheet o (Read c) before after → WasRead s after c
   unfolding sheetAnswer SheetLaid
   was-read (faulty f) e did = let z : _≡_ {A = ℕ} 0 1 = cc in absurd (omega arith)
@@ -49,8 +52,8 @@ module _ {s before after : List ℕ} (room : 256 ≤ length before) where
   sheet-was-read did e = was-read (readSheet s) refl (rw e at did)
 
 -- a fault of the first eleven
-module _ {s rows sets cells : List ℕ} {f : Fault} where
-  pub did-refuse : judge s ≡ faulty f → DidCompile s (Refused f) rows sets cells
+module _ {s rows statics cells : List ℕ} {f : Fault} where
+  pub did-refuse : judge s ≡ faulty f → DidCompile s (Refused f) rows statics cells
   unfolding compiledOf
   did-refuse e = record { outcome = faulty f; checks = refused e; answer = refl; columns = λ w z. faulty-sheet z }
 
@@ -64,8 +67,8 @@ unfolding builtOf
 not-built (faulty f) e = cc
 not-built (sheet w) e = let z : _≡_ {A = ℕ} 0 1 = cc in absurd (omega arith)
 
-pub sheet-refused : {s before after rows sets cells : List ℕ} {r : SheetRead} {f : Fault} → DidSheet (readSheet s) r before after → r ≡ NotRead f
-    → DidCompile s (Refused f) rows sets cells
+pub sheet-refused : {s before after rows statics cells : List ℕ} {r : SheetRead} {f : Fault} → DidSheet (readSheet s) r before after → r ≡ NotRead f
+    → DidCompile s (Refused f) rows statics cells
 unfolding judge judged
 sheet-refused {s} did e = did-refuse (ap judged (not-read (readSheet s) (sym e ∙ did .answer)))
 
@@ -73,7 +76,7 @@ sheet-refused {s} did e = did-refuse (ap judged (not-read (readSheet s) (sym e �
 pub record IsBuilt (w : Sheet) (n : ℕ) : Type 0 where
   pub judged-as : judged (sheet w) ≡ sheet w
   pub count : n ≡ length (sheetNetlist w)
-  pub few : length (sheetNetlist w) ≤ 1024
+  pub few : length (sheetNetlist w) ≤ maxCells
 
 is-built : (w : Sheet) (o : SheetOutcome) {n : ℕ} → judged (sheet w) ≡ o → Cells n ≡ builtOf o → IsBuilt w n
 unfolding builtOf
@@ -92,33 +95,39 @@ module _ {s rows : List ℕ} {c : Counts} (was : WasRead s rows c) where
   unfolding judge
   judged-sheet = ap judged (was .read)
 
-  module _ {sets′ cells cells′ : List ℕ} {r : NetlistBuilt} (did : JudgesRead rows c r sets′ cells cells′) where
-    judges : Judges (was .w) r sets′ cells cells′
+  module _ {statics′ cells cells′ : List ℕ} {r : NetlistBuilt} (did : JudgesRead rows c r statics′ cells cells′) where
+    judges : Judges (was .w) r statics′ cells cells′
     judges = did .judges (was .w) (was .is)
 
-    pub judge-refused : {f : Fault} {rows sets cells : List ℕ} → r ≡ NotBuilt f → DidCompile s (Refused f) rows sets cells
+    pub judge-refused : {f : Fault} {rows statics cells : List ℕ} → r ≡ NotBuilt f → DidCompile s (Refused f) rows statics cells
     judge-refused e = did-refuse (judged-sheet ∙ not-built (judged (sheet (was .w))) (sym e ∙ judges .answer))
 
-    module _ {n : ℕ} (built-n : r ≡ Cells n) (room : 1024 ≤ length cells) where
+    module _ {n : ℕ} (built-n : r ≡ Cells n) (room : maxCells ≤ length cells) where
       built : IsBuilt (was .w) n
       built = is-built (was .w) (judged (sheet (was .w))) refl (sym built-n ∙ judges .answer)
 
       within : AllWithin (1 + was .w .inputs) (length (sheetNetlist (was .w))) (sheetNetlist (was .w))
       within = sheet-closed (was .is .proper)
 
+      -- its numbers have sixteen bits
+      small : AllWithin 65536 65536 (sheetNetlist (was .w))
+      small =
+          all-wider (1 + was .w .inputs) (length (sheetNetlist (was .w))) 65536 65536 (sheetNetlist (was .w)) (omega (arith, was .is .proper .header))
+          (omega (arith, built .few)) within
+
       -- the words of the first n cells mean the netlist
       pub cells-are : cellsOf (take n cells′) ≡ sheetNetlist (was .w)
       cells-are =
           rw (built .count, judges .stored (built .judged-as))
-          (stored-cells (1 + was .w .inputs) within cells (omega (arith, was .is .proper .header)) (omega (arith, built .few)) (omega (arith, built .few)))
+          (stored-cells (sheetNetlist (was .w)) cells small (omega (arith, built .few)))
 
       pub cells-closed : Closed (cellsOf (take n cells′))
       cells-closed = rw cells-are (closed (1 + was .w .inputs) within)
 
-      n-few : n ≤ 1024
+      n-few : n ≤ maxCells
       n-few = omega (arith, built .count, built .few)
 
-      -- .. and there are n of them, at most 1,024
+      -- .. and there are n of them, not too many
       module _ (kept : length cells′ ≡ length cells) where
         pub n-long : n ≤ length cells′
         n-long = omega (arith, n-few, room)
@@ -126,7 +135,7 @@ module _ {s rows : List ℕ} {c : Counts} (was : WasRead s rows c) where
         pub prefix-long : n ≡ length (take n cells′)
         prefix-long = sym (length-take-le n cells′ n-long)
 
-        pub prefix-few : length (take n cells′) ≤ 1024
+        pub prefix-few : length (take n cells′) ≤ maxCells
         prefix-few = omega (arith, n-few, prefix-long)
 
       stored-words : take (length (sheetNetlist (was .w))) cells′ ≡ map word (sheetNetlist (was .w))
@@ -135,7 +144,7 @@ module _ {s rows : List ℕ} {c : Counts} (was : WasRead s rows c) where
       meaning : cellsOf (take (length (sheetNetlist (was .w))) cells′) ≡ sheetNetlist (was .w)
       meaning = ap (λ (k : ℕ). cellsOf (take k cells′)) (sym (built .count)) ∙ cells-are
 
-      finish : {r : Compiled} → Finishes (sheetNetlist (was .w)) c r → DidCompile s r rows sets′ cells′
+      finish : {r : Compiled} → Finishes (sheetNetlist (was .w)) c r → DidCompile s r rows statics′ cells′
       unfolding compiledOf
       finish (found {order} ordered) =
           record {
@@ -143,7 +152,7 @@ module _ {s rows : List ℕ} {c : Counts} (was : WasRead s rows c) where
             checks = accepted order (judged-sheet ∙ built .judged-as) ordered;
             answer = ap (λ (k : Counts). Program k (length (sheetNetlist (was .w)))) (was .is .counts);
             columns = λ v e. let own : was .w ≡ v = cc in
-                subst (λ (u : Sheet). Compiles u rows sets′ cells′) own
+                subst (λ (u : Sheet). Compiles u rows statics′ cells′) own
                 (record { holds = was .is .holds; kept = judges .kept; stored = stored-words; means = meaning });
           }
       finish (cycle lowest) =
@@ -154,5 +163,5 @@ module _ {s rows : List ℕ} {c : Counts} (was : WasRead s rows c) where
             columns = λ v e. faulty-sheet e;
           }
 
-      pub did-finish : {r : Compiled} → Finishes (cellsOf (take n cells′)) c r → DidCompile s r rows sets′ cells′
+      pub did-finish : {r : Compiled} → Finishes (cellsOf (take n cells′)) c r → DidCompile s r rows statics′ cells′
       did-finish f = finish (rw cells-are at f)

@@ -2,7 +2,6 @@
 use mathlib.Core.Path.{_≡_}
 use mathlib.Core.List.{List}
 use Prim.Native.Nat.{ℕ}
-use lib.Dec.{ltb}
 use lib.ListN.{length}
 use Rattle.number.specs.declared.CellNo.{CellNo}
 use Rattle.number.specs.declared.Fault.{Fault}
@@ -11,6 +10,7 @@ use Rattle.number.specs.declared.Refusal.the-variants.{Instant, Twice, Room, Cy
 use Rattle.number.specs.Counts.{stmtNo, ofStmt, ofCell}
 use Rattle.number.specs.Number.{pick}
 use Rattle.number.specs.Refusals.{fault}
+use Rattle.limits.specs.Limits.{manyCells}
 use Rattle.sheet.specs.Read.{Sheet, SheetOutcome, sheet, faulty, readSheet}
 use Rattle.sets.specs.declared.Found.{Found}
 use Rattle.sets.specs.declared.Found.the-variants.{At, Clear}
@@ -26,7 +26,7 @@ unless x Clear o = o
 -- "ROOM: over 1,024 cells", place 0
 unfoldable pub roomy : Sheet → SheetOutcome
 unfolding pick netlist
-roomy w = pick (ltb 1024 (length (sheetNetlist w))) (faulty (fault Room 0)) (sheet w)
+roomy w = pick (manyCells (length (sheetNetlist w))) (faulty (fault Room 0)) (sheet w)
 
 -- "INSTANT", "first such loop's number"; "TWICE", "first such X"; ROOM
 unfoldable pub judged : SheetOutcome → SheetOutcome

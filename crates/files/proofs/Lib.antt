@@ -4,4 +4,3 @@ pub mod Standing
 pub mod Sound
 pub mod Whole
 pub mod ReadBack
-pub mod OfSheets

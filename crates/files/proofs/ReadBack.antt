@@ -13,14 +13,20 @@ use Rattle.number.specs.declared.NumberRead.the-variants.{Value}
 use Rattle.number.specs.Counts.{cellNo, ofCell, ofSignal}
 use Rattle.number.specs.Number.{cursor, numberAt, numberBytes, numberLength, Bytes}
 use Rattle.number.proofs.Laws.{length-at-least, read-bytes, Spelled, only-spelling}
-use Rattle.gates.specs.declared.Cell.{Cell}
-use Rattle.gates.specs.declared.Cell.the-variants.{Low, High, Input, Or, And, Butnot, Register}
-use Rattle.gates.specs.Values.{tally, registers}
-use Rattle.gates.proofs.Operands.{Within}
-use Rattle.order.proofs.Closing.{within-wider}
-use Rattle.files.specs.File.{Netlist, kindOf, operandBytes, cellBytes, cellsBytes, fileBytes, kindFits, isNet, operandsFit, cellsFit, nextCell, WellFormed}
+use Rattle.number.proofs.Bools.{and-left, and-right}
+use Rattle.limits.specs.Limits.{maxSignals, maxCells, maxRegisters}
+use Rattle.cells.specs.declared.Cell.{Cell}
+use Rattle.cells.specs.declared.Cell.the-variants.{Low, High, Input, Gate, Register}
+use Rattle.cells.specs.Cells.{kindOf, nextCell}
+use Rattle.cells.specs.Values.{tally, registers}
+use Rattle.cells.specs.Netlist.{Netlist, kindFits, isNet, operandsFit, cellsFit, WellFormed}
+use Rattle.cells.proofs.Within.{Within, within-wider}
+use Rattle.cells.proofs.Words.{kind-low}
+use Rattle.cells.proofs.Counting.{tally-sum}
+use Rattle.cells.proofs.Fitting.{room-tally, fit-within}
+use Rattle.files.specs.File.{operandBytes, cellBytes, cellsBytes, fileBytes}
 use Rattle.files.specs.Read.{netlist, readFile}
-use Rattle.files.proofs.Judging.{and-left, and-right, right-count, right-kind, room-tally, tally-sum, kind-low, fit-within}
+use Rattle.files.proofs.Judging.{right-count, right-kind}
 use Rattle.files.proofs.Standing.{PairStands, Operands, CellStands, CellsStand}
 use Rattle.files.proofs.Sound.{FileStands, file-stands, stands-file}
 
@@ -58,7 +64,7 @@ record PairIn (s : List ℕ) (m at : ℕ) (y z : CellNo) (rest : List ℕ) : Typ
   pair : PairStands s m at y z past
   behind : drop (past .at) s ≡ rest
 
-module _ (s : List ℕ) (m : ℕ) (few : m ≤ 1024) where
+module _ (s : List ℕ) (m : ℕ) (few : m ≤ maxCells) where
   pair-in : (at : ℕ) (y z : CellNo) (rest : List ℕ) → (isNet m y && isNet m z) ≡ true → (ofCell y < m) × (ofCell z < m)
       → drop at s ≡ (numberBytes (ofCell y) ++ numberBytes (ofCell z)) ++ rest → PairIn s m at y z rest
   pair-in at y z rest nets small e =
@@ -76,21 +82,15 @@ module _ (s : List ℕ) (m : ℕ) (few : m ≤ 1024) where
         behind = second .behind;
       }
 
-  operands-in : (x : CellNo) (at : ℕ) (c : Cell) (rest : List ℕ) → Within 64 m c → operandsFit m x c ≡ true → drop at s ≡ operandBytes c ++ rest
-      → OperandsIn s m x at c rest
+  operands-in : (x : CellNo) (at : ℕ) (c : Cell) (rest : List ℕ) → Within maxSignals m c → operandsFit m x c ≡ true
+      → drop at s ≡ operandBytes c ++ rest → OperandsIn s m x at c rest
   unfolding operandsFit
   operands-in x at Low rest w o e = record { past = cursor at; operands = refl; behind = e }
   operands-in x at High rest w o e = record { past = cursor at; operands = refl; behind = e }
   operands-in x at (Input v) rest w o e =
       let n = number-in s at (ofSignal v) rest (omega (arith, w)) e in
       record { past = n .past; operands = record { number = n .number; is = o }; behind = n .behind }
-  operands-in x at (Or y z) rest w o e =
-      let p = pair-in at y z rest o w e in
-      record { past = p .past; operands = p .pair; behind = p .behind }
-  operands-in x at (And y z) rest w o e =
-      let p = pair-in at y z rest o w e in
-      record { past = p .past; operands = p .pair; behind = p .behind }
-  operands-in x at (Butnot y z) rest w o e =
+  operands-in x at (Gate g y z) rest w o e =
       let p = pair-in at y z rest o w e in
       record { past = p .past; operands = p .pair; behind = p .behind }
   operands-in x at (Register y) rest w o e =
@@ -107,14 +107,15 @@ record CellsIn (s : List ℕ) (I m : ℕ) (x : CellNo) (k at : ℕ) (cs : List C
   stand : CellsStand s I m x k at cs end
   behind : drop end s ≡ rest
 
-module _ (s : List ℕ) (I m : ℕ) (inputs : I < 64) (few : m ≤ 1024) where
-  cell-in : (x : CellNo) (k at : ℕ) (c : Cell) (rest : List ℕ) → kindFits I x (kindOf c) ≡ true → operandsFit m x c ≡ true → tally c k ≤ 64
-      → drop at s ≡ cellBytes c ++ rest → CellIn s I m x k at c rest
+module _ (s : List ℕ) (I m : ℕ) (inputs : I < maxSignals) (few : m ≤ maxCells) where
+  cell-in : (x : CellNo) (k at : ℕ) (c : Cell) (rest : List ℕ) → kindFits I x (kindOf c) ≡ true → operandsFit m x c ≡ true
+      → tally c k ≤ maxRegisters → drop at s ≡ cellBytes c ++ rest → CellIn s I m x k at c rest
   cell-in x k at c rest kind operands room e =
       let low : kindOf c ≤ 6 = kind-low c in
       let apart = append-assoc (numberBytes (kindOf c)) (operandBytes c) rest in
       let first = number-in s at (kindOf c) (operandBytes c ++ rest) (omega arith) (e ∙ apart) in
-      let within : Within 64 m c = within-wider (1 + I) m 64 m c (omega arith) (omega arith) (fit-within I m x c kind operands) in
+      let fits : Within (1 + I) m c = fit-within I m x c kind operands in
+      let within : Within maxSignals m c = within-wider (1 + I) m maxSignals m c (omega arith) (omega arith) fits in
       let then = operands-in s m few x (first .past .at) c rest within operands (first .behind) in
       record {
         past = then .past;
@@ -128,7 +129,7 @@ module _ (s : List ℕ) (I m : ℕ) (inputs : I < 64) (few : m ≤ 1024) where
         behind = then .behind;
       }
 
-  cells-in : (x : CellNo) (k at : ℕ) (cs : List Cell) (rest : List ℕ) → cellsFit I m x cs ≡ true → k + registers cs ≤ 64
+  cells-in : (x : CellNo) (k at : ℕ) (cs : List Cell) (rest : List ℕ) → cellsFit I m x cs ≡ true → k + registers cs ≤ maxRegisters
       → drop at s ≡ cellsBytes cs ++ rest → CellsIn s I m x k at cs rest
   unfolding cellsBytes cellsFit registers CellsStand
   cells-in x k at [] rest fit room e = record { end = at; stand = refl; behind = e }
@@ -140,9 +141,8 @@ module _ (s : List ℕ) (I m : ℕ) (inputs : I < 64) (few : m ≤ 1024) where
       let first =
       cell-in x k at c (cellsBytes cs ++ rest) (and-left kind operands this) (and-right kind operands this) (omega arith)
       (e ∙ append-assoc (cellBytes c) (cellsBytes cs) rest) in
-      let then =
-      cells-in (nextCell x) (tally c k) (first .past .at) cs rest (and-right (kind && operands) (cellsFit I m (nextCell x) cs) fit) (omega arith)
-      (first .behind) in
+      let others : cellsFit I m (nextCell x) cs ≡ true = and-right (kind && operands) (cellsFit I m (nextCell x) cs) fit in
+      let then = cells-in (nextCell x) (tally c k) (first .past .at) cs rest others (omega arith) (first .behind) in
       record { end = then .end; stand = (first .past, first .stands, then .stand); behind = then .behind }
 
 file-in : (w : Netlist) → WellFormed w → FileStands (fileBytes w) w
@@ -167,7 +167,7 @@ file-in w h =
       end = all .end;
       inputs = inputs .number;
       outputs = outputs .number;
-      signals = le-ltb 64 (1 + I + O) (h .signals);
+      signals = le-ltb maxSignals (1 + I + O) (h .signals);
       count = count .number;
       enough = right-count (record { few = h .few; enough = h .enough });
       cells = all .stand;
@@ -192,7 +192,8 @@ nothing-between : (s : List ℕ) (at end : ℕ) → end ≡ at → Between s at 
 nothing-between s at end e = record { is = rw e }
 
 and-then : {s : List ℕ} {at mid end : ℕ} {a b : List ℕ} → Between s at mid a → Between s mid end b → Between s at end (a ++ b)
-and-then {s} {at} {mid} {end} {a} {b} p q = record { is = p .is ∙ ap (λ (l : List ℕ). a ++ l) (q .is) ∙ sym (append-assoc a b (drop end s)) }
+and-then {s} {at} {mid} {end} {a} {b} p q =
+    record { is = p .is ∙ ap (λ (l : List ℕ). a ++ l) (q .is) ∙ sym (append-assoc a b (drop end s)) }
 
 module _ (s : List ℕ) (are : Bytes s) where
   number-between : {at v : ℕ} {past : Cursor} → numberAt s at ≡ Value v past → Between s at (past .at) (numberBytes v)
@@ -204,16 +205,16 @@ module _ (s : List ℕ) (are : Bytes s) where
       → Between s at (past .at) (numberBytes (ofCell y) ++ numberBytes (ofCell z))
   pair-between h = and-then (number-between (h .first .number)) (number-between (h .second .number))
 
-  operands-between : (m : ℕ) (x : CellNo) (at : ℕ) (c : Cell) (past : Cursor) → Operands s m x at c past → Between s at (past .at) (operandBytes c)
+  operands-between : (m : ℕ) (x : CellNo) (at : ℕ) (c : Cell) (past : Cursor) → Operands s m x at c past
+      → Between s at (past .at) (operandBytes c)
   operands-between m x at Low past h = nothing-between s at (past .at) (rw h refl)
   operands-between m x at High past h = nothing-between s at (past .at) (rw h refl)
   operands-between m x at (Input v) past h = number-between (h .number)
-  operands-between m x at (Or y z) past h = pair-between h
-  operands-between m x at (And y z) past h = pair-between h
-  operands-between m x at (Butnot y z) past h = pair-between h
+  operands-between m x at (Gate g y z) past h = pair-between h
   operands-between m x at (Register y) past h = number-between (h .number)
 
-  cells-between : (I m : ℕ) (x : CellNo) (k at : ℕ) (cs : List Cell) (end : ℕ) → CellsStand s I m x k at cs end → Between s at end (cellsBytes cs)
+  cells-between : (I m : ℕ) (x : CellNo) (k at : ℕ) (cs : List Cell) (end : ℕ) → CellsStand s I m x k at cs end
+      → Between s at end (cellsBytes cs)
   unfolding CellsStand cellsBytes
   cells-between I m x k at [] end h = nothing-between s at end h
   cells-between I m x k at (c ∷ cs) end h =

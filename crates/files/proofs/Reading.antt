@@ -14,13 +14,14 @@ use Rattle.number.specs.declared.Refusal.the-variants.{Cell as CellFault}
 use Rattle.number.specs.Counts.{cellNo, ofCell, signalNo}
 use Rattle.number.specs.Number.{pick}
 use Rattle.number.specs.Refusals.{fault}
-use Rattle.gates.specs.declared.Cell.{Cell}
-use Rattle.gates.specs.declared.Cell.the-variants.{Low, High, Input, Or, And, Butnot, Register}
-use Rattle.gates.specs.Store.{word}
-use Rattle.gates.specs.Values.{tally}
+use Rattle.cells.specs.declared.Cell.{Cell}
+use Rattle.cells.specs.declared.Cell.the-variants.{Input}
+use Rattle.cells.specs.Words.{word}
+use Rattle.cells.specs.Values.{tally}
+use Rattle.cells.proofs.Counting.{tally-le}
 use Rattle.files.specs.declared.CellRead.the-variants.{Read, Refused as NoCell}
 use Rattle.files.specs.declared.CellsRead.the-variants.{Past, Refused as NoCells}
-use Rattle.files.specs.Read.{inputOf, gateOf, operandsAt, pairAt, readCell, CellsOutcome, got, refused, before, andThen, readCells}
+use Rattle.files.specs.Read.{inputOf, readCell, CellsOutcome, got, refused, inFront, andThen, readCells}
 use Rattle.files.specs.Answer.{cellsAnswer, CellsLaid, DidCells}
 
 -- the operand of an input is the number before the cell's, or it is CELL
@@ -33,33 +34,17 @@ module _ (x : CellNo) (at v : ℕ) (c : Cursor) where
   unfolding inputOf pick
   input-wrong h = simp (ne-eqb (suc v) (ofCell x) (λ z. h (omega arith)))
 
--- kinds 3 to 5 have two operands
-pub gate-operands : (s : List ℕ) (m : ℕ) (x : CellNo) (at k : ℕ) → (k ≡ 0 → ⊥) → (k ≡ 1 → ⊥) → (k ≡ 2 → ⊥) → (k ≡ 6 → ⊥)
-    → operandsAt s m x at k ≡ gateOf k (pairAt s m at)
-unfolding operandsAt pick
-gate-operands s m x at k a b d e = simp (ne-eqb k 0 a, ne-eqb k 1 b, ne-eqb k 2 d, ne-eqb k 6 e)
-
--- one register more at most
-pub tally-few : (c : Cell) (k n : ℕ) → k ≤ n → tally c k ≤ n + 1
-tally-few Low k n h = omega arith
-tally-few High k n h = omega arith
-tally-few (Input s) k n h = omega arith
-tally-few (Or x y) k n h = omega arith
-tally-few (And x y) k n h = omega arith
-tally-few (Butnot x y) k n h = omega arith
-tally-few (Register x) k n h = omega arith
-
 -- a cell in front changes neither the answer nor what is laid behind it
-before-answer : (c : Cell) (o : CellsOutcome) → cellsAnswer o ≡ cellsAnswer (before c o)
-unfolding cellsAnswer before
-before-answer c (got cs at) = refl
-before-answer c (refused f) = refl
+front-answer : (c : Cell) (o : CellsOutcome) → cellsAnswer o ≡ cellsAnswer (inFront c o)
+unfolding cellsAnswer inFront
+front-answer c (got cs at) = refl
+front-answer c (refused f) = refl
 
-before-laid : (n : ℕ) (c : Cell) (o : CellsOutcome) (column column′ : List ℕ) → CellsLaid (suc n) o (set column n (word c)) column′
-    → CellsLaid n (before c o) column column′
-unfolding CellsLaid before
-before-laid n c (got cs at) column column′ h = h
-before-laid n c (refused f) column column′ h = tt
+front-laid : (n : ℕ) (c : Cell) (o : CellsOutcome) (column column′ : List ℕ) → CellsLaid (suc n) o (set column n (word c)) column′
+    → CellsLaid n (inFront c o) column column′
+unfolding CellsLaid inFront
+front-laid n c (got cs at) column column′ h = h
+front-laid n c (refused f) column column′ h = tt
 
 -- The loop over the cells: what is left to read, from cell n of m on, decides the answer and what is laid.
 module _ (s : List ℕ) (I m start : ℕ) (column₀ : List ℕ) where
@@ -83,7 +68,7 @@ module _ (s : List ℕ) (I m start : ℕ) (column₀ : List ℕ) where
 
   module _ {n registers at : ℕ} {column : List ℕ} (r : Reading n registers at column) where
     one-cell : n < m → left n registers at
-        ≡ andThen (readCell s I m (cellNo n) registers at) (λ c past. readCells (m - suc n) s I m (cellNo (suc n)) (tally c registers) (past .at))
+        ≡ andThen (readCell s I m (cellNo n) registers at) (λ c past. left (suc n) (tally c registers) (past .at))
     unfolding readCells
     one-cell h = let less : m - n ≡ suc (m - suc n) = omega arith in rw less
 
@@ -98,13 +83,13 @@ module _ (s : List ℕ) (I m start : ℕ) (column₀ : List ℕ) where
     unfolding andThen
     goes-on {c} {past} h e =
         let next : CellsOutcome = left (suc n) (tally c registers) (past .at) in
-        let this : left n registers at ≡ before c next = one-cell h ∙ rw e in
+        let this : left n registers at ≡ inFront c next = one-cell h ∙ rw e in
         rw add-one record {
           inside = omega arith;
-          few = omega (arith, tally-few c registers n (r .few));
+          few = omega (arith, tally-le c registers, r .few);
           long = length-set column n (word c) ∙ r .long;
-          answer = before-answer c next ∙ ap cellsAnswer (sym this) ∙ r .answer;
-          laid = λ l h. r .laid l (rw this (before-laid n c next column l h));
+          answer = front-answer c next ∙ ap cellsAnswer (sym this) ∙ r .answer;
+          laid = λ l h. r .laid l (rw this (front-laid n c next column l h));
         }
 
     pub ends : m ≤ n → DidCells (whole) (Past at) column₀ column

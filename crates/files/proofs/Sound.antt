@@ -13,16 +13,19 @@ use Rattle.number.specs.declared.NumberRead.{NumberRead}
 use Rattle.number.specs.declared.NumberRead.the-variants.{Value, Refused as NoNumber}
 use Rattle.number.specs.Counts.{cellNo}
 use Rattle.number.specs.Number.{pick, numberAt}
-use Rattle.gates.specs.declared.Cell.{Cell}
-use Rattle.gates.specs.declared.Cell.the-variants.{Low, High, Input, Or, And, Butnot, Register}
-use Rattle.gates.specs.Values.{tally, registers}
+use Rattle.limits.specs.Limits.{maxSignals, maxRegisters, manySignals}
+use Rattle.cells.specs.declared.Cell.{Cell}
+use Rattle.cells.specs.declared.Cell.the-variants.{Low, High, Input, Gate, Register}
+use Rattle.cells.specs.Cells.{kindOf, nextCell}
+use Rattle.cells.specs.Values.{tally}
+use Rattle.cells.specs.Netlist.{Netlist, isNet, operandsFit, WellFormed}
+use Rattle.cells.proofs.Fitting.{tally-room, Fit, fit-none, fit-more}
 use Rattle.files.specs.declared.Judgement.{Judgement}
 use Rattle.files.specs.declared.Judgement.the-variants.{Right, Wrong}
-use Rattle.files.specs.File.{Netlist, kindOf, kindFits, isNet, operandsFit, cellsFit, nextCell, WellFormed}
-use Rattle.files.specs.Judge.{manySignals, judgeCount}
+use Rattle.files.specs.Judge.{judgeCount}
 use Rattle.files.specs.Read.{CellsOutcome, got, refused, readCells, FileOutcome, netlist, faulty, ended, bodyAt, counted, afterCount, countAt}
 use Rattle.files.specs.Read.{afterOutputs, afterInputs, readFile}
-use Rattle.files.proofs.Judging.{CountRight, count-right, kind-right, tally-room, tally-sum}
+use Rattle.files.proofs.Judging.{count-right, kind-right}
 use Rattle.files.proofs.Standing.{by-test, PairStands, Operands, CellsStand, AllStand, cells-stand, stand-read}
 
 -- Cells that stand in a file fit.
@@ -35,27 +38,11 @@ unfolding operandsFit
 operands-fit s m x at Low past h = refl
 operands-fit s m x at High past h = refl
 operands-fit s m x at (Input v) past h = h .is
-operands-fit s m x at (Or y z) past h = pair-fits h
-operands-fit s m x at (And y z) past h = pair-fits h
-operands-fit s m x at (Butnot y z) past h = pair-fits h
+operands-fit s m x at (Gate g y z) past h = pair-fits h
 operands-fit s m x at (Register y) past h = h .is
 
--- the registers before cell x and those from it on
-pub record Fit (I m : ℕ) (x : CellNo) (k : ℕ) (cs : List Cell) : Type 0 where
-  pub fit : cellsFit I m x cs ≡ true
-  pub bits : k + registers cs ≤ 64
-
-pub fit-none : (I m : ℕ) (x : CellNo) (k : ℕ) → k ≤ 64 → Fit I m x k []
-unfolding cellsFit registers
-fit-none I m x k few = record { fit = refl; bits = omega arith }
-
-pub fit-more : {I m : ℕ} {x : CellNo} {k : ℕ} (c : Cell) (cs : List Cell) → kindFits I x (kindOf c) ≡ true → operandsFit m x c ≡ true
-    → Fit I m (nextCell x) (tally c k) cs → Fit I m x k (c ∷ cs)
-unfolding cellsFit registers
-fit-more {I} {m} {x} {k} c cs kind operands w =
-    record { fit = rw (kind, operands, w .fit) refl; bits = omega (arith, w .bits, tally-sum c k (registers cs)) }
-
-stand-fit : (s : List ℕ) (I m : ℕ) (x : CellNo) (k at : ℕ) (cs : List Cell) (end : ℕ) → k ≤ 64 → CellsStand s I m x k at cs end → Fit I m x k cs
+stand-fit : (s : List ℕ) (I m : ℕ) (x : CellNo) (k at : ℕ) (cs : List Cell) (end : ℕ) → k ≤ maxRegisters
+    → CellsStand s I m x k at cs end → Fit I m x k cs
 unfolding CellsStand
 stand-fit s I m x k at [] end few h = fit-none I m x k few
 stand-fit s I m x k at (c ∷ cs) end few h =
@@ -108,7 +95,8 @@ module _ (s : List ℕ) where
               last = ltb-false end (length s) t;
             })
 
-    counted-found : numberAt s (third .at) ≡ Value m body → (j : Judgement) → judgeCount I O m ≡ j → FileFound (counted s I O m (third .at) (body .at) j)
+    counted-found : numberAt s (third .at) ≡ Value m body → (j : Judgement) → judgeCount I O m ≡ j
+        → FileFound (counted s I O m (third .at) (body .at) j)
     unfolding counted
     counted-found e (Wrong r) q = tt
     counted-found e Right q = body-found e q
@@ -148,11 +136,11 @@ stands-file {s} {w} h =
 pub read-well-formed : (s : List ℕ) {w : Netlist} → readFile s ≡ netlist w → WellFormed w
 read-well-formed s {w} e =
     let h = file-stands s e in
-    let count : CountRight (w .inputs) (w .outputs) (length (w .cells)) = count-right (w .inputs) (w .outputs) (length (w .cells)) (h .enough) in
+    let count = count-right (w .inputs) (w .outputs) (length (w .cells)) (h .enough) in
     let fit : Fit (w .inputs) (length (w .cells)) (cellNo 0) 0 (w .cells) =
     stand-fit s (w .inputs) (length (w .cells)) (cellNo 0) 0 (h .body .at) (w .cells) (h .end) (omega arith) (h .cells) in
     record {
-      signals = ltb-false 64 (1 + w .inputs + w .outputs) (h .signals);
+      signals = ltb-false maxSignals (1 + w .inputs + w .outputs) (h .signals);
       few = count .few;
       enough = count .enough;
       bits = omega (arith, fit .bits);

@@ -1,22 +1,25 @@
 -- What stands in the bytes where a cell, or all cells, were read: the numbers of its kind and operands, each of which is right. And where these stand the cell is
 -- read.
 use Prim.Native.Nat.{ℕ, zero, suc, _≤_, _<_}
-use mathlib.Core.Path.{_≡_, refl, ap}
+use mathlib.Core.Path.{_≡_, refl, sym, ap, _∙_}
 use mathlib.Core.Bool.{Bool, true, false}
 use mathlib.Core.List.{List, [], _∷_}
 use native.Mathlib.Omega.{arith}
 use lib.Dec.{ltb, eqb}
 use lib.ListN.{length}
-use borrow.Author.Tests.{eqb-true, eqb-false}
+use borrow.Author.Tests.{eqb-true, eqb-false, ne-eqb}
 use Rattle.number.specs.declared.CellNo.{CellNo}
 use Rattle.number.specs.declared.Cursor.{Cursor}
 use Rattle.number.specs.declared.NumberRead.{NumberRead}
 use Rattle.number.specs.declared.NumberRead.the-variants.{Value, Refused as NoNumber}
 use Rattle.number.specs.Counts.{cellNo, ofCell, signalNo, ofSignal}
 use Rattle.number.specs.Number.{pick, cursor, numberAt}
-use Rattle.gates.specs.declared.Cell.{Cell}
-use Rattle.gates.specs.declared.Cell.the-variants.{Low, High, Input, Or, And, Butnot, Register}
-use Rattle.gates.specs.Values.{tally}
+use Rattle.cells.specs.declared.Cell.{Cell}
+use Rattle.cells.specs.declared.Cell.the-variants.{Low, High, Input, Gate, Register}
+use Rattle.cells.specs.Cells.{gateKind, kindOf, nextCell}
+use Rattle.cells.specs.Values.{tally}
+use Rattle.cells.specs.Netlist.{isNet}
+use Rattle.cells.proofs.Words.{gate-in-kind, kind-gate-in, gate-kind-low, gate-kind-high}
 use Rattle.files.specs.declared.Judgement.{Judgement}
 use Rattle.files.specs.declared.Judgement.the-variants.{Right, Wrong}
 use Rattle.files.specs.declared.NetRead.{NetRead}
@@ -25,10 +28,9 @@ use Rattle.files.specs.declared.PairRead.{PairRead}
 use Rattle.files.specs.declared.PairRead.the-variants.{Pair, Refused as NoPair}
 use Rattle.files.specs.declared.CellRead.{CellRead}
 use Rattle.files.specs.declared.CellRead.the-variants.{Read, Refused as NoCell}
-use Rattle.files.specs.File.{kindOf, isNet, nextCell}
 use Rattle.files.specs.Judge.{judgeKind}
-use Rattle.files.specs.Read.{netOf, netAt, secondOf, pairOf, pairAt, inputOf, gate, gateOf, registerOf, operandsAt, ofKind, afterKind, readCell}
-use Rattle.files.specs.Read.{CellsOutcome, got, refused, before, andThen, readCells}
+use Rattle.files.specs.Read.{netOf, netAt, withSecond, pairOf, pairAt, inputOf, gateOf, registerOf, operandsAt, ofKind, afterKind, readCell}
+use Rattle.files.specs.Read.{CellsOutcome, got, refused, inFront, andThen, readCells}
 use Rattle.files.proofs.Judging.{kind-right}
 
 -- the net y stands at `at`, and is one of m cells
@@ -50,9 +52,7 @@ abbrev pub Operands : List ℕ → ℕ → CellNo → ℕ → Cell → Cursor �
 Operands s m x at Low past = past ≡ cursor at
 Operands s m x at High past = past ≡ cursor at
 Operands s m x at (Input v) past = InputStands s x at (ofSignal v) past
-Operands s m x at (Or y z) past = PairStands s m at y z past
-Operands s m x at (And y z) past = PairStands s m at y z past
-Operands s m x at (Butnot y z) past = PairStands s m at y z past
+Operands s m x at (Gate g y z) past = PairStands s m at y z past
 Operands s m x at (Register y) past = NetStands s m at y past
 
 -- with so many registers before it, the cell c stands at `at`
@@ -98,10 +98,11 @@ net-found s m at = go (numberAt s at) refl
     go (Value v c) e = by-test (NetFound s m at) (ltb v m) (Net (cellNo v) c) _ (λ t. record { number = e; is = t }) (λ t. tt)
 
 pair-found : (s : List ℕ) (m at : ℕ) → PairFound s m at (pairAt s m at)
-unfolding secondOf pairOf
+unfolding withSecond pairOf
 pair-found s m at = go (netAt s m at) (net-found s m at)
   where
-    next : (y : CellNo) (mid : Cursor) → NetStands s m at y mid → (r : NetRead) → NetFound s m (mid .at) r → PairFound s m at (secondOf y r)
+    next : (y : CellNo) (mid : Cursor) → NetStands s m at y mid → (r : NetRead) → NetFound s m (mid .at) r
+        → PairFound s m at (withSecond y r)
     next y mid h (NoNet f) w = tt
     next y mid h (Net z past) w = record { mid = mid; first = h; second = w }
 
@@ -129,20 +130,12 @@ module _ (s : List ℕ) (m : ℕ) (x : CellNo) (at k : ℕ) where
       go (Net y past) w = record { kind = h; operands = w }
 
   gate-found : 2 < k → k < 6 → KindFound s m x at k (gateOf k (pairAt s m at))
-  unfolding gateOf gate
+  unfolding gateOf
   gate-found some few = go (pairAt s m at) (pair-found s m at)
     where
       go : (r : PairRead) → PairFound s m at r → KindFound s m x at k (gateOf k r)
       go (NoPair f) w = tt
-      go (Pair y z past) w =
-          by-test (λ (c : Cell). OperandsFound s m x at k c past) (eqb k 3) (Or y z) _
-          (λ t. record { kind = eqb-true k 3 t; operands = w })
-          (λ n3. by-test (λ (c : Cell). OperandsFound s m x at k c past) (eqb k 4) (And y z) (Butnot y z)
-          (λ t. record { kind = eqb-true k 4 t; operands = w })
-          (λ n4.
-          let not-3 : k ≡ 3 → ⊥ = eqb-false k 3 n3 in
-          let not-4 : k ≡ 4 → ⊥ = eqb-false k 4 n4 in
-          record { kind = omega arith; operands = w }))
+      go (Pair y z past) w = record { kind = sym (kind-gate-in k some few); operands = w }
 
   operands-found : k ≤ 6 → KindFound s m x at k (operandsAt s m x at k)
   unfolding operandsAt
@@ -188,18 +181,26 @@ unfolding netOf pick
 net-read h = simp (h .number, h .is)
 
 pair-read : {s : List ℕ} {m at : ℕ} {y z : CellNo} {past : Cursor} → PairStands s m at y z past → pairAt s m at ≡ Pair y z past
-unfolding pairOf secondOf
+unfolding pairOf withSecond
 pair-read h = simp (net-read (h .first), net-read (h .second))
+
+-- kinds 3 to 5 have two operands
+pub gate-operands : (s : List ℕ) (m : ℕ) (x : CellNo) (at k : ℕ) → (k ≡ 0 → ⊥) → (k ≡ 1 → ⊥) → (k ≡ 2 → ⊥) → (k ≡ 6 → ⊥)
+    → operandsAt s m x at k ≡ gateOf k (pairAt s m at)
+unfolding operandsAt pick
+gate-operands s m x at k a b d e = simp (ne-eqb k 0 a, ne-eqb k 1 b, ne-eqb k 2 d, ne-eqb k 6 e)
 
 operands-read : (s : List ℕ) (m : ℕ) (x : CellNo) (at : ℕ) (c : Cell) (past : Cursor) → Operands s m x at c past
     → operandsAt s m x at (kindOf c) ≡ Read c past
-unfolding operandsAt inputOf registerOf gateOf gate pick
+unfolding operandsAt inputOf registerOf gateOf pick
 operands-read s m x at Low past h = rw h refl
 operands-read s m x at High past h = rw h refl
 operands-read s m x at (Input v) past h = simp (h .number, h .is)
-operands-read s m x at (Or y z) past h = simp (pair-read h)
-operands-read s m x at (And y z) past h = simp (pair-read h)
-operands-read s m x at (Butnot y z) past h = simp (pair-read h)
+operands-read s m x at (Gate g y z) past h =
+    let low : gateKind g ≤ 5 = gate-kind-low g in
+    let high : 2 < gateKind g = gate-kind-high g in
+    let two = gate-operands s m x at (gateKind g) (λ e. omega arith) (λ e. omega arith) (λ e. omega arith) (λ e. omega arith) in
+    two ∙ simp (pair-read h, gate-in-kind g)
 operands-read s m x at (Register y) past h = simp (net-read h)
 
 -- a cell that stands there is read
@@ -223,14 +224,15 @@ abbrev AllFound : ℕ → List ℕ → ℕ → ℕ → CellNo → ℕ → ℕ �
 AllFound left s I m x registers at (refused f) = Unit
 AllFound left s I m x registers at (got cs end) = AllStand left s I m x registers at cs end
 
-all-found : (left : ℕ) (s : List ℕ) (I m : ℕ) (x : CellNo) (registers at : ℕ) → AllFound left s I m x registers at (readCells left s I m x registers at)
-unfolding readCells CellsStand before andThen
+all-found : (left : ℕ) (s : List ℕ) (I m : ℕ) (x : CellNo) (registers at : ℕ)
+    → AllFound left s I m x registers at (readCells left s I m x registers at)
+unfolding readCells CellsStand inFront andThen
 all-found zero s I m x registers at = record { count = refl; stand = refl }
 all-found (suc left) s I m x registers at =
     go (readCell s I m x registers at) refl (λ c past. all-found left s I m (nextCell x) (tally c registers) (past .at))
   where
     more : (c : Cell) (past : Cursor) → CellStands s I m x registers at c past → (o : CellsOutcome)
-        → AllFound left s I m (nextCell x) (tally c registers) (past .at) o → AllFound (suc left) s I m x registers at (before c o)
+        → AllFound left s I m (nextCell x) (tally c registers) (past .at) o → AllFound (suc left) s I m x registers at (inFront c o)
     more c past h (refused f) w = tt
     more c past h (got cs end) w = record { count = ap suc (w .count); stand = (past, h, w .stand) }
 
@@ -250,7 +252,7 @@ cells-stand left s I m x registers at e = rw e at (all-found left s I m x regist
 -- cells that stand there are read
 pub stand-read : (s : List ℕ) (I m : ℕ) (x : CellNo) (registers at : ℕ) (cs : List Cell) (end : ℕ) → CellsStand s I m x registers at cs end
     → readCells (length cs) s I m x registers at ≡ got cs end
-unfolding readCells CellsStand andThen before
+unfolding readCells CellsStand andThen inFront
 stand-read s I m x registers at [] end h = rw h refl
 stand-read s I m x registers at (c ∷ cs) end h =
     simp (stands-read (h .1), stand-read s I m (nextCell x) (tally c registers) (h .0 .at) cs end (h .2))

@@ -12,19 +12,19 @@ use Rattle.number.specs.declared.Refusal.the-variants.{Extra}
 use Rattle.number.specs.Counts.{cellNo}
 use Rattle.number.specs.Number.{pick}
 use Rattle.number.specs.Refusals.{fault}
-use Rattle.gates.specs.declared.Cell.{Cell}
-use Rattle.gates.specs.Store.{word}
+use Rattle.limits.specs.Limits.{maxSignals, manySignals}
+use Rattle.cells.specs.declared.Cell.{Cell}
+use Rattle.cells.specs.Words.{word}
 use Rattle.files.specs.declared.CellsRead.{CellsRead}
 use Rattle.files.specs.declared.CellsRead.the-variants.{Past, Refused as NoCells}
 use Rattle.files.specs.declared.FileRead.the-variants.{Read, Refused}
-use Rattle.files.specs.Judge.{manySignals}
 use Rattle.files.specs.Read.{CellsOutcome, got, refused, readCells, FileOutcome, faulty, ended, bodyAt}
 use Rattle.files.specs.Answer.{fileAnswer, cellsAnswer, CellsLaid, DidCells, FileLaid, DidFile}
 use Rattle.files.proofs.Standing.{cells-stand}
 
--- over 64 signals are refused, so there are at most 64
-pub few-signals : (I O : ℕ) → manySignals I O ≡ false → 1 + I + O ≤ 64
-few-signals I O e = ltb-false 64 (1 + I + O) e
+-- too many signals are refused, so there are few
+pub few-signals : (I O : ℕ) → manySignals I O ≡ false → 1 + I + O ≤ maxSignals
+few-signals I O e = ltb-false maxSignals (1 + I + O) e
 
 pub file-stop : {o : FileOutcome} {f : Fault} {column column′ : List ℕ} → o ≡ faulty f → DidFile o (Refused f) column column′
 unfolding fileAnswer FileLaid

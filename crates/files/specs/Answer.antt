@@ -1,16 +1,17 @@
+-- Not to be believed: what the code keeps to; the proofs check it.
 -- What the code answers, and the cells that it lays in the lent column, by the definitions of reading.
 use mathlib.Core.Path.{_≡_}
 use mathlib.Core.List.{List, map}
 use Prim.Native.Nat.{ℕ}
 use lib.ListN.{length}
 use lib.Seq.{sets}
-use Rattle.gates.specs.Store.{word}
+use Rattle.cells.specs.Words.{word}
+use Rattle.cells.specs.Netlist.{Netlist}
 use Rattle.files.specs.declared.Header.{Header}
 use Rattle.files.specs.declared.CellsRead.{CellsRead}
 use Rattle.files.specs.declared.CellsRead.the-variants.{Past, Refused as NoCells}
 use Rattle.files.specs.declared.FileRead.{FileRead}
 use Rattle.files.specs.declared.FileRead.the-variants.{Read, Refused}
-use Rattle.files.specs.File.{Netlist}
 use Rattle.files.specs.Read.{CellsOutcome, got, refused, FileOutcome, netlist, faulty}
 
 -- I, O and the count of cells

@@ -14,10 +14,13 @@ use Rattle.number.specs.declared.Refusal.the-variants.{Count, Extra, Cell as Ce
 use Rattle.number.specs.Counts.{cellNo, ofCell, signalNo}
 use Rattle.number.specs.Number.{pick, cursor, numberAt}
 use Rattle.number.specs.Refusals.{fault}
-use Rattle.gates.specs.declared.Cell.{Cell}
-use Rattle.gates.specs.declared.Cell.the-variants.{Low, High, Input, Or, And, Butnot, Register}
-use Rattle.gates.specs.Cells.{signalCell}
-use Rattle.gates.specs.Values.{tally}
+use Rattle.limits.specs.Limits.{manySignals}
+use Rattle.cells.specs.declared.Cell.{Cell}
+use Rattle.cells.specs.declared.Cell.the-variants.{Low, High, Input, Gate, Register}
+use Rattle.cells.specs.Cells.{signalCell, nextCell}
+use Rattle.cells.specs.Words.{gateIn}
+use Rattle.cells.specs.Values.{tally}
+use Rattle.cells.specs.Netlist.{Netlist}
 use Rattle.files.specs.declared.Judgement.{Judgement}
 use Rattle.files.specs.declared.Judgement.the-variants.{Right, Wrong}
 use Rattle.files.specs.declared.NetRead.{NetRead}
@@ -26,8 +29,7 @@ use Rattle.files.specs.declared.PairRead.{PairRead}
 use Rattle.files.specs.declared.PairRead.the-variants.{Pair, Refused as NoPair}
 use Rattle.files.specs.declared.CellRead.{CellRead}
 use Rattle.files.specs.declared.CellRead.the-variants.{Read, Refused as NoCell}
-use Rattle.files.specs.File.{Netlist, nextCell}
-use Rattle.files.specs.Judge.{manySignals, judgeCount, judgeKind}
+use Rattle.files.specs.Judge.{judgeCount, judgeKind}
 
 -- an operand of one of m cells: "operand not a cell" is CELL at the offset of the operand
 unfoldable pub netOf : ℕ → ℕ → NumberRead → NetRead
@@ -38,13 +40,13 @@ abbrev pub netAt : List ℕ → ℕ → ℕ → NetRead
 netAt s m at = netOf m at (numberAt s at)
 
 -- two operands, the first judged before the second is read
-unfoldable pub secondOf : CellNo → NetRead → PairRead
-secondOf x (NoNet f) = NoPair f
-secondOf x (Net y c) = Pair x y c
+unfoldable pub withSecond : CellNo → NetRead → PairRead
+withSecond x (NoNet f) = NoPair f
+withSecond x (Net y c) = Pair x y c
 
 unfoldable pub pairOf : List ℕ → ℕ → NetRead → PairRead
 pairOf s m (NoNet f) = NoPair f
-pairOf s m (Net x c) = secondOf x (netAt s m (c .at))
+pairOf s m (Net x c) = withSecond x (netAt s m (c .at))
 
 abbrev pub pairAt : List ℕ → ℕ → ℕ → PairRead
 pairAt s m at = pairOf s m (netAt s m at)
@@ -55,12 +57,9 @@ inputOf x at (NoNumber f) = NoCell f
 inputOf x at (Value v c) = pick (eqb (ofCell (signalCell (signalNo v))) (ofCell x)) (Read (Input (signalNo v)) c) (NoCell (fault CellFault at))
 
 -- "3 or x y; 4 and x y; 5 butnot x y"
-unfoldable pub gate : ℕ → CellNo → CellNo → Cell
-gate k x y = pick (eqb k 3) (Or x y) (pick (eqb k 4) (And x y) (Butnot x y))
-
 unfoldable pub gateOf : ℕ → PairRead → CellRead
 gateOf k (NoPair f) = NoCell f
-gateOf k (Pair x y c) = Read (gate k x y) c
+gateOf k (Pair x y c) = Read (Gate (gateIn k) x y) c
 
 -- "6 register x"
 unfoldable pub registerOf : NetRead → CellRead
@@ -94,13 +93,13 @@ pub data CellsOutcome : Type 0 where
   refused : Fault → CellsOutcome
 
 -- the cell c in front of those after it
-unfoldable pub before : Cell → CellsOutcome → CellsOutcome
-before c (got cs at) = got (c ∷ cs) at
-before c (refused f) = refused f
+unfoldable pub inFront : Cell → CellsOutcome → CellsOutcome
+inFront c (got cs at) = got (c ∷ cs) at
+inFront c (refused f) = refused f
 
 unfoldable pub andThen : CellRead → (Cell → Cursor → CellsOutcome) → CellsOutcome
 andThen (NoCell f) next = refused f
-andThen (Read c past) next = before c (next c past)
+andThen (Read c past) next = inFront c (next c past)
 
 -- "cells in order": those that are left, from cell x on
 unfoldable pub readCells : ℕ → List ℕ → ℕ → ℕ → CellNo → ℕ → ℕ → CellsOutcome

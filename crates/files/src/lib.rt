@@ -1,5 +1,5 @@
 // The reader of netlist files.
-use gates::Cell;
+use cells::Cell;
 use number::CellNo;
 use number::Cursor;
 use number::Fault;
@@ -13,9 +13,10 @@ ghost use lib.Dec.{eqb, leb};
 ghost use Rattle.number.specs.Counts.{cellNo};
 ghost use Rattle.number.specs.Number.{numberAt};
 ghost use Rattle.number.specs.Refusals.{fault};
-ghost use Rattle.files.specs.File.{kindFits};
+ghost use Rattle.limits.specs.Limits.{maxSignals, maxCells, maxRegisters};
+ghost use Rattle.cells.specs.Netlist.{kindFits};
 ghost use Rattle.files.specs.Judge.{judgeCount, judgeKind};
-ghost use Rattle.files.specs.Read.{netAt, pairAt, inputOf, gate, gateOf, registerOf, operandsAt, readCell, readCells, bodyAt, countAt, readFile};
+ghost use Rattle.files.specs.Read.{netAt, pairAt, inputOf, gateOf, registerOf, operandsAt, readCell, readCells, bodyAt, countAt, readFile};
 ghost use Rattle.files.specs.Answer.{DidCells, DidFile};
 
 // I, O and the count of cells.
@@ -66,10 +67,10 @@ pub fn refused(refusal: Refusal, place: usize) -> FileRead
 
 // The count of cells: COUNT, CELL.
 pub fn judge_count(i: u32, o: u32, m: usize) -> Judgement
-    requires { ⌜ 1 + i + o ≤ 64 ⌝ }
+    requires { ⌜ 1 + i + o ≤ maxSignals ⌝ }
     ensures { λ r. ⌜ r ≡ judgeCount i o m ⌝ }
 {
-    if 1024 < m {
+    if limits::many_cells(m) {
         return Judgement::Wrong(Refusal::Count);
     }
     if m < (2 + i + o) as usize {
@@ -97,10 +98,10 @@ fn kind_fits(i: u32, x: CellNo, k: u32) -> bool
 
 // Whether a cell of this kind is one register too many.
 fn one_too_many(k: u32, registers: u32) -> bool
-    ensures { λ r. ⌜ r ≡ (eqb k 6 && leb 64 registers) ⌝ }
+    ensures { λ r. ⌜ r ≡ (eqb k 6 && leb maxRegisters registers) ⌝ }
 {
     if k == 6 {
-        return 64 <= registers;
+        return limits::registers_full(registers);
     }
     false
 }
@@ -168,22 +169,12 @@ fn read_input(s: &[u8], x: CellNo, at: usize) -> CellRead
     })
 }
 
-fn gate_of(k: u32, x: CellNo, y: CellNo) -> Cell
-    ensures { λ r. ⌜ r ≡ gate k x y ⌝ }
-{
-    match k {
-        3 => Cell::Or(x, y),
-        4 => Cell::And(x, y),
-        _ => Cell::Butnot(x, y),
-    }
-}
-
 fn read_gate(s: &[u8], m: u32, k: u32, at: usize) -> CellRead
     ensures { λ r. ⌜ r ≡ gateOf k (pairAt (now (s .entry)) m at) ⌝ }
 {
     match read_pair(s, m, at) {
         PairRead::Refused(f) => CellRead::Refused(f),
-        PairRead::Pair(x, y, next) => CellRead::Read(gate_of(k, x, y), next),
+        PairRead::Pair(x, y, next) => CellRead::Read(Cell::Gate(cells::gate_in(k), x, y), next),
     }
 }
 
@@ -225,7 +216,7 @@ fn read_cell(s: &[u8], h: Header, x: CellNo, registers: u32, at: usize) -> CellR
 
 // All cells, in order, into the column. What lies past its end is judged and not stored.
 fn read_cells(s: &[u8], h: Header, start: usize, cells: &mut [u64]) -> CellsRead
-    requires { ⌜ h .cells ≤ 1024 ⌝ }
+    requires { ⌜ h .cells ≤ maxCells ⌝ }
     ensures { λ r. ⌜ DidCells (readCells (h .cells) (now (s .entry)) (h .inputs) (h .cells) (cellNo 0) 0 start) r
         (now (cells .entry)) (now (cells .exit)) ⌝ }
 {
@@ -238,8 +229,8 @@ fn read_cells(s: &[u8], h: Header, start: usize, cells: &mut [u64]) -> CellsRead
         match read_cell(s, h, x, registers, at) {
             CellRead::Refused(f) => return CellsRead::Refused(f),
             CellRead::Read(c, next) => {
-                gates::fill(cells, x, c);
-                registers = run::tally(c, registers);
+                cells::fill(cells, x, c);
+                registers = cells::tally(c, registers);
                 at = next.at;
                 n += 1;
             }
@@ -250,7 +241,7 @@ fn read_cells(s: &[u8], h: Header, start: usize, cells: &mut [u64]) -> CellsRead
 
 // The cells, then EXTRA.
 fn read_body(s: &[u8], h: Header, at: usize, cells: &mut [u64]) -> FileRead
-    requires { ⌜ h .cells ≤ 1024 ⌝ }
+    requires { ⌜ h .cells ≤ maxCells ⌝ }
     ensures { λ r. ⌜ DidFile (bodyAt (now (s .entry)) (h .inputs) (h .outputs) (h .cells) at) r (now (cells .entry)) (now (cells .exit)) ⌝ }
 {
     match read_cells(s, h, at, cells) {
@@ -266,7 +257,7 @@ fn read_body(s: &[u8], h: Header, at: usize, cells: &mut [u64]) -> FileRead
 
 // The cell count and what follows it.
 fn read_counted(s: &[u8], i: u32, o: u32, at: usize, cells: &mut [u64]) -> FileRead
-    requires { ⌜ 1 + i + o ≤ 64 ⌝ }
+    requires { ⌜ 1 + i + o ≤ maxSignals ⌝ }
     ensures { λ r. ⌜ DidFile (countAt (now (s .entry)) i o at) r (now (cells .entry)) (now (cells .exit)) ⌝ }
 {
     let a = number::read_number(s, at);

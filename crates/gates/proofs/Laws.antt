@@ -10,9 +10,15 @@ use lib.Seq.{sets, length-sets, set-set, set-comm}
 use Rattle.number.specs.Counts.{cellNo}
 use Rattle.number.specs.Number.{pick}
 use Rattle.number.specs.declared.CellNo.{CellNo}
-use Rattle.gates.specs.declared.Cell.{Cell}
-use Rattle.gates.specs.Cells.{New, old, new}
-use Rattle.gates.specs.Store.{word, Wrote, Makes}
+use Rattle.cells.specs.declared.Cell.{Cell}
+use Rattle.number.proofs.Lists.{sets-append}
+use Rattle.cells.specs.declared.Gate as gate
+use Rattle.cells.specs.declared.Gate.the-variants.{Or, And, Butnot}
+use Rattle.cells.specs.declared.Cell.the-variants.{Gate}
+use Rattle.cells.specs.Cells.{low, isLow}
+use Rattle.cells.specs.Words.{word}
+use Rattle.gates.specs.Folding.{New, old, new, firstLow, secondLow, gateAt}
+use Rattle.gates.specs.Store.{Wrote, Makes}
 
 pub wrote-none : (l : List ℕ) (n : ℕ) → Wrote l l n n []
 wrote-none l n = record { stored = refl; counted = sym (add-zero n) }
@@ -20,12 +26,6 @@ wrote-none l n = record { stored = refl; counted = sym (add-zero n) }
 map-append : (u v : List Cell) → map word (u ++ v) ≡ map word u ++ map word v
 map-append [] v = refl
 map-append (c ∷ u) v = ap (λ (l : List ℕ). word c ∷ l) (map-append u v)
-
-pub sets-append : (l : List ℕ) (n : ℕ) (u v : List ℕ) → sets l n (u ++ v) ≡ sets (sets l n u) (n + length u) v
-sets-append l n [] v = rw (add-zero n)
-sets-append l n (x ∷ u) v =
-    let e : suc n + length u ≡ n + suc (length u) = omega arith in
-    sets-append (set l n x) (suc n) u v ∙ ap (λ (k : ℕ). sets (sets (set l n x) (suc n) u) k v) e
 
 -- more cells after some
 pub wrote-more : {l l₁ l₂ : List ℕ} {n n₁ n₂ : ℕ} {u v : List Cell} → Wrote l l₁ n n₁ u → Wrote l₁ l₂ n₁ n₂ v → Wrote l l₂ n n₂ (u ++ v)
@@ -67,19 +67,40 @@ makes-old most l n x = record { wrote = wrote-none l n; is = refl; few = omega a
 pub makes-new : (l l′ : List ℕ) (n : ℕ) (c : Cell) → l′ ≡ set l n (word c) → Makes 1 (new n c) l l′ n (n + 1) (cellNo n)
 makes-new l l′ n c e = record { wrote = record { stored = e; counted = refl }; is = refl; few = omega arith }
 
--- The form of or, and, butnot: where the first operand is low it is the net u, where the second is low the net v, and else the new cell c.
-abbrev pub gate : ℕ → Bool → Bool → CellNo → CellNo → Cell → New
-gate n first second u v c = pick first (old u) (pick second (old v) (new n c))
+-- A gate: its net where its first operand is low, where its second is, and where neither is.
+module _ (l : List ℕ) (n : ℕ) (g : gate.Gate) (x y : CellNo) where
+  pub first-folds : isLow x ≡ true → Makes 1 (gateAt g n x y) l l n n (firstLow g y)
+  unfolding gateAt pick
+  first-folds p = rw p (makes-old 1 l n (firstLow g y))
 
-module _ (l : List ℕ) (n : ℕ) (a b : Bool) (u v : CellNo) (c : Cell) where
-  pub first-folds : a ≡ true → Makes 1 (gate n a b u v c) l l n n u
-  unfolding pick
-  first-folds p = rw p (makes-old 1 l n u)
+  pub second-folds : isLow x ≡ false → isLow y ≡ true → Makes 1 (gateAt g n x y) l l n n (secondLow g x)
+  unfolding gateAt pick
+  second-folds p q = rw (p, q) (makes-old 1 l n (secondLow g x))
 
-  pub second-folds : a ≡ false → b ≡ true → Makes 1 (gate n a b u v c) l l n n v
-  unfolding pick
-  second-folds p q = rw (p, q) (makes-old 1 l n v)
-
-  pub none-folds : {l′ : List ℕ} {n′ : ℕ} {r : CellNo} → a ≡ false → b ≡ false → Makes 1 (new n c) l l′ n n′ r → Makes 1 (gate n a b u v c) l l′ n n′ r
-  unfolding pick
+  pub none-folds : {l′ : List ℕ} {n′ : ℕ} {r : CellNo} → isLow x ≡ false → isLow y ≡ false → Makes 1 (new n (Gate g x y)) l l′ n n′ r
+      → Makes 1 (gateAt g n x y) l l′ n n′ r
+  unfolding gateAt pick
   none-folds p q m = rw (p, q) m
+
+-- What holds of a gate's net that folds, and of its new cell, holds of the gate.
+pub by-folding : (P : New → Type 0) (g : gate.Gate) (n : ℕ) (x y : CellNo) → (isLow x ≡ true → P (old (firstLow g y)))
+    → (isLow y ≡ true → P (old (secondLow g x))) → P (new n (Gate g x y)) → P (gateAt g n x y)
+unfolding gateAt pick
+by-folding P g n x y first second neither = go (isLow x) (isLow y) first second
+  where
+    go : (a b : Bool) → (a ≡ true → P (old (firstLow g y))) → (b ≡ true → P (old (secondLow g x)))
+        → P (pick a (old (firstLow g y)) (pick b (old (secondLow g x)) (new n (Gate g x y))))
+    go true b f h = f refl
+    go false true f h = h refl
+    go false false f h = neither
+
+-- and the net that folds is low or an operand
+pub first-low-is : (P : CellNo → Type 0) (g : gate.Gate) (y : CellNo) → P low → P y → P (firstLow g y)
+first-low-is P Or y p q = q
+first-low-is P And y p q = p
+first-low-is P Butnot y p q = p
+
+pub second-low-is : (P : CellNo → Type 0) (g : gate.Gate) (x : CellNo) → P low → P x → P (secondLow g x)
+second-low-is P Or x p q = q
+second-low-is P And x p q = p
+second-low-is P Butnot x p q = q

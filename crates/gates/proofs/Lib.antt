@@ -1,6 +1,5 @@
 pub mod Laws
 pub mod Operands
-pub mod Words
 pub mod OrRow
 pub mod ParallelRow
 pub mod LowAbove

@@ -1,4 +1,4 @@
--- "one net for each code up to 1+d, d enclosing traps": in rows of ten nets those above 1+d are low, and make no cells. Stated over any d.
+-- "one net for each code up to 1+d, d enclosing traps": in rows those above 1+d are low, and make no cells. Stated over any d.
 use Prim.Native.Nat.{ℕ, zero, suc, _+_, _-_, _≤_, _<_}
 use mathlib.Core.Path.{_≡_, refl, sym, ap, _∙_}
 use mathlib.Core.Bool.{Bool, true, false}
@@ -10,8 +10,10 @@ use borrow.Author.Tests.{eqb-true}
 use Rattle.number.specs.Counts.{cellNo, ofCell}
 use Rattle.number.specs.Number.{pick}
 use Rattle.number.specs.declared.CellNo.{CellNo}
-use Rattle.gates.specs.declared.Cell.{Cell}
-use Rattle.gates.specs.Cells.{low, isLow, old, orAt, butnotAt}
+use Rattle.limits.specs.Limits.{maxCodes}
+use Rattle.cells.specs.declared.Cell.{Cell}
+use Rattle.cells.specs.Cells.{low, isLow}
+use Rattle.gates.specs.Folding.{old, gateAt, orAt, butnotAt}
 use Rattle.gates.specs.Rows.{code, only, withCode0, trapRow, orRow, pairs, Level, levelAt, Highest, highest, parallelRow, killOf}
 use Rattle.gates.proofs.OrRow.{with-code0-at, trap-at}
 use Rattle.gates.proofs.ParallelRow.{pairs-at}
@@ -20,7 +22,7 @@ abbrev pub LowAbove : ℕ → List CellNo → Type 0
 LowAbove d ks = (j : ℕ) → 1 + d < j → code ks j ≡ low
 
 pub only-low : (d k : ℕ) (g : CellNo) → k ≤ 1 + d → LowAbove d (only k g)
-only-low d k g h j l = go k (9 - k) j (omega arith)
+only-low d k g h j l = go k (maxCodes - suc k) j (omega arith)
   where
     lows : (i j : ℕ) → code (replicate i low) j ≡ low
     lows zero j = refl
@@ -44,11 +46,11 @@ trap-low d o ks h (suc (suc j)) l = trap-at o ks j ∙ h (suc (suc (suc j))) (om
 
 -- "or with 0 is the other operand"
 or-low-left : (n : ℕ) (y : CellNo) → orAt n low y ≡ old y
-unfolding orAt pick
+unfolding gateAt pick
 or-low-left n y = refl
 
 or-low-right : (n : ℕ) (x : CellNo) → orAt n x low ≡ old x
-unfolding orAt pick
+unfolding gateAt pick
 or-low-right n x = go (isLow x) refl
   where
     go : (b : Bool) → isLow x ≡ b → pick b (old low) (old x) ≡ old x
@@ -57,7 +59,7 @@ or-low-right n x = go (isLow x) refl
 
 -- "butnot 0 y is 0"
 butnot-low : (n : ℕ) (y : CellNo) → butnotAt n low y ≡ old low
-unfolding butnotAt pick
+unfolding gateAt pick
 butnot-low n y = refl
 
 pub or-row-low : (d n : ℕ) (ps qs : List CellNo) → LowAbove d ps → LowAbove d qs → LowAbove d ((orRow n ps qs) .nets)
@@ -123,7 +125,7 @@ cut-row k (c ∷ cs) n keep h =
 none-from : (d : ℕ) (ps qs : List CellNo) → LowAbove d ps → LowAbove d qs → NoneFrom (suc (suc d)) (pairs ps qs)
 none-from d ps qs hp hq j l = pairs-at ps qs j ∙ rw (hp j (omega arith), hq j (omega arith))
 
--- "for j from 1+d down to 0": from code 9 down come the same cells and nets, since the codes above 1+d make none
+-- "for j from 1+d down to 0": from the highest code down come the same cells and nets, since the codes above 1+d make none
 pub from-highest : (d n : ℕ) (keep : ℕ → Bool) (ps qs : List CellNo) → LowAbove d ps → LowAbove d qs
     → Same (parallelRow n keep (pairs ps qs)) (parallelRow n keep (take (suc (suc d)) (pairs ps qs)))
 from-highest d n keep ps qs hp hq = cut-row (suc d) (pairs ps qs) n keep (none-from d ps qs hp hq)

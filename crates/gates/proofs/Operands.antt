@@ -6,30 +6,20 @@ use mathlib.Core.Bool.{Bool, true, false}
 use mathlib.Core.List.{List, [], _∷_, _++_}
 use native.Mathlib.Omega.{arith}
 use lib.ListN.{length, getD, replicate, length-append}
-use Rattle.number.specs.Counts.{ofCell, ofSignal}
-use Rattle.number.specs.Number.{pick}
+use Rattle.number.specs.Counts.{ofCell}
 use Rattle.number.specs.declared.CellNo.{CellNo}
-use Rattle.gates.specs.declared.Cell.{Cell}
-use Rattle.gates.specs.declared.Cell.the-variants.{Low, High, Input, Or, And, Butnot, Register}
-use Rattle.gates.specs.Cells.{New, low, isLow, orAt, andAt, butnotAt}
+use Rattle.limits.specs.Limits.{maxCodes}
+use Rattle.cells.specs.declared.Gate as gate
+use Rattle.cells.specs.declared.Cell.{Cell}
+use Rattle.cells.specs.declared.Cell.the-variants.{Gate}
+use Rattle.cells.specs.declared.Gate.the-variants.{Or, Butnot}
+use Rattle.cells.specs.Cells.{low}
+use Rattle.cells.proofs.Within.{AllWithin, none-within, append-within}
+use Rattle.gates.specs.Folding.{New, gateAt, orAt, butnotAt}
 use Rattle.gates.specs.Rows.{code, only, withCode0, trapRow, Row, orRow, pairs, onlyIf, Level, levelAt, lastAt, Highest, highest, parallelRow}
-use Rattle.gates.proofs.Laws.{gate}
+use Rattle.gates.proofs.Laws.{by-folding, first-low-is, second-low-is}
 use Rattle.gates.proofs.ParallelRow.{pairs-at}
 use Rattle.gates.proofs.OrRow.{trap-at, with-code0-at}
-
--- an input's signal is below s, any operand is below m
-abbrev pub Within : ℕ → ℕ → Cell → Type 0
-Within s m Low = Unit
-Within s m High = Unit
-Within s m (Input i) = ofSignal i < s
-Within s m (Or x y) = (ofCell x < m) × (ofCell y < m)
-Within s m (And x y) = (ofCell x < m) × (ofCell y < m)
-Within s m (Butnot x y) = (ofCell x < m) × (ofCell y < m)
-Within s m (Register x) = ofCell x < m
-
-unfoldable pub AllWithin : ℕ → ℕ → List Cell → Type 0
-AllWithin s m [] = Unit
-AllWithin s m (c ∷ cs) = Within s m c × AllWithin s m cs
 
 -- every net of a row is below m
 abbrev pub NetsBelow : ℕ → List CellNo → Type 0
@@ -54,37 +44,18 @@ pub record HighestWithin (s m : ℕ) (w : Highest) : Type 0 where
   pub above : NetsBelow m (w .above)
 
 module _ (s m : ℕ) where
-  none-within : AllWithin s m []
+  pub gate-within : (g : gate.Gate) (n : ℕ) (x y : CellNo) → ofCell x < m → ofCell y < m → n + length ((gateAt g n x y) .cells) ≤ m
+      → NewWithin s m (gateAt g n x y)
   unfolding AllWithin
-  none-within = tt
-
-  pub append-within : (u v : List Cell) → AllWithin s m u → AllWithin s m v → AllWithin s m (u ++ v)
-  unfolding AllWithin
-  append-within [] v p q = q
-  append-within (c ∷ u) v p q = (p .0, append-within u v (p .1) q)
-
-  gate-within : (n : ℕ) (a b : Bool) (u v : CellNo) (c : Cell) → ofCell u < m → ofCell v < m → Within s m c
-      → n + length ((gate n a b u v c) .cells) ≤ m → NewWithin s m (gate n a b u v c)
-  unfolding pick AllWithin
-  gate-within n true b u v c hu hv hc h = record { operands = tt; net = hu }
-  gate-within n false true u v c hu hv hc h = record { operands = tt; net = hv }
-  gate-within n false false u v c hu hv hc h = record { operands = (hc, tt); net = omega arith }
-
-  pub or-within : (n : ℕ) (x y : CellNo) → ofCell x < m → ofCell y < m → n + length ((orAt n x y) .cells) ≤ m → NewWithin s m (orAt n x y)
-  unfolding orAt
-  or-within n x y hx hy h = gate-within n (isLow x) (isLow y) y x (Or x y) hy hx (hx, hy) h
-
-  pub and-within : (n : ℕ) (x y : CellNo) → ofCell x < m → ofCell y < m → n + length ((andAt n x y) .cells) ≤ m → NewWithin s m (andAt n x y)
-  unfolding andAt
-  and-within n x y hx hy h = gate-within n (isLow x) (isLow y) low low (And x y) (omega arith) (omega arith) (hx, hy) h
-
-  pub butnot-within : (n : ℕ) (x y : CellNo) → ofCell x < m → ofCell y < m → n + length ((butnotAt n x y) .cells) ≤ m
-      → NewWithin s m (butnotAt n x y)
-  unfolding butnotAt
-  butnot-within n x y hx hy h = gate-within n (isLow x) (isLow y) low x (Butnot x y) (omega arith) hx (hx, hy) h
+  gate-within g n x y hx hy =
+      let some : 0 < m = omega arith in
+      by-folding (λ (w : New). n + length (w .cells) ≤ m → NewWithin s m w) g n x y
+      (λ e h. record { operands = tt; net = first-low-is (λ (z : CellNo). ofCell z < m) g y some hy })
+      (λ e h. record { operands = tt; net = second-low-is (λ (z : CellNo). ofCell z < m) g x some hx })
+      (λ h. record { operands = ((hx, hy), tt); net = omega arith })
 
   pub only-within : (k : ℕ) (g : CellNo) → ofCell g < m → NetsBelow m (only k g)
-  only-within k g h = go k (9 - k)
+  only-within k g h = go k (maxCodes - suc k)
     where
       lows : (i j : ℕ) → ofCell (code (replicate i low) j) < m
       lows zero j = omega arith
@@ -109,23 +80,23 @@ module _ (s m : ℕ) where
   pub or-row-within : (ps qs : List CellNo) (n : ℕ) → NetsBelow m ps → NetsBelow m qs → n + length ((orRow n ps qs) .cells) ≤ m
       → RowWithin s m (orRow n ps qs)
   unfolding orRow
-  or-row-within [] qs n hp hq h = record { operands = none-within; nets = hq }
-  or-row-within (p ∷ ps) [] n hp hq h = record { operands = none-within; nets = hp }
+  or-row-within [] qs n hp hq h = record { operands = none-within s m; nets = hq }
+  or-row-within (p ∷ ps) [] n hp hq h = record { operands = none-within s m; nets = hp }
   or-row-within (p ∷ ps) (q ∷ qs) n hp hq h =
       let o : New = orAt n p q in
       let r : Row = orRow (n + length (o .cells)) ps qs in
       let long : length (o .cells ++ r .cells) ≡ length (o .cells) + length (r .cells) = length-append (o .cells) (r .cells) in
-      let this : NewWithin s m o = or-within n p q (hp 0) (hq 0) (omega arith) in
+      let this : NewWithin s m o = gate-within Or n p q (hp 0) (hq 0) (omega arith) in
       let rest : RowWithin s m r = or-row-within ps qs (n + length (o .cells)) (λ j. hp (suc j)) (λ j. hq (suc j)) (omega arith) in
       record {
-        operands = append-within (o .cells) (r .cells) (this .operands) (rest .operands);
+        operands = append-within s m (o .cells) (r .cells) (this .operands) (rest .operands);
         nets = λ j. elim j [ zero ↦ this .net | suc i ↦ rest .nets i ];
       }
 
   only-if-within : (keep : Bool) (w : New) → (length (w .cells) ≤ length ((onlyIf keep w) .cells) → NewWithin s m w) → 0 < m
       → NewWithin s m (onlyIf keep w)
   only-if-within true w f h = f (omega arith)
-  only-if-within false w f h = record { operands = none-within; net = h }
+  only-if-within false w f h = record { operands = none-within s m; net = h }
 
   -- m of a code and its butnot, which code 0 and the others have alike
   abbrev held : ℕ → Bool → CellNo → CellNo → CellNo → New
@@ -138,8 +109,8 @@ module _ (s m : ℕ) where
       let b : New = held n keep p q x in
       let n₂ : ℕ = n + length (o .cells) in
       let long : length (o .cells ++ b .cells) ≡ length (o .cells) + length (b .cells) = length-append (o .cells) (b .cells) in
-      let this : NewWithin s m o = or-within n p q hp hq (omega arith) in
-      (this, only-if-within keep (butnotAt n₂ (o .net) x) (λ l. butnot-within n₂ (o .net) x (this .net) hx (omega arith)) (omega arith))
+      let this : NewWithin s m o = gate-within Or n p q hp hq (omega arith) in
+      (this, only-if-within keep (butnotAt n₂ (o .net) x) (λ l. gate-within Butnot n₂ (o .net) x (this .net) hx (omega arith)) (omega arith))
 
   level-within : (n : ℕ) (keep : Bool) (p q x : CellNo) → ofCell p < m → ofCell q < m → ofCell x < m
       → n + length ((levelAt n keep p q x) .cells) ≤ m → LevelWithin s m (levelAt n keep p q x)
@@ -152,11 +123,11 @@ module _ (s m : ℕ) where
       length-append (o .cells) (b .cells ++ y .cells) ∙ ap (λ (k : ℕ). length (o .cells) + k) (length-append (b .cells) (y .cells)) in
       let short : length (o .cells ++ b .cells) ≡ length (o .cells) + length (b .cells) = length-append (o .cells) (b .cells) in
       let both : NewWithin s m o × NewWithin s m b = last-within n keep p q x hp hq hx (omega arith) in
-      let next : NewWithin s m y = or-within n₃ x (o .net) hx (both .0 .net) (omega arith) in
+      let next : NewWithin s m y = gate-within Or n₃ x (o .net) hx (both .0 .net) (omega arith) in
       record {
         operands =
-            append-within (o .cells) (b .cells ++ y .cells) (both .0 .operands)
-            (append-within (b .cells) (y .cells) (both .1 .operands) (next .operands));
+            append-within s m (o .cells) (b .cells ++ y .cells) (both .0 .operands)
+            (append-within s m (b .cells) (y .cells) (both .1 .operands) (next .operands));
         net = both .1 .net;
         above = next .net;
       }
@@ -167,7 +138,7 @@ module _ (s m : ℕ) where
   highest-within : (cs : List (CellNo × CellNo)) (n : ℕ) (keep : ℕ → Bool) → PairsBelow cs → 0 < m → n + length ((highest n keep cs) .cells) ≤ m
       → HighestWithin s m (highest n keep cs)
   unfolding highest
-  highest-within [] n keep hc some h = record { operands = none-within; nets = λ j. some; above = λ j. some }
+  highest-within [] n keep hc some h = record { operands = none-within s m; nets = λ j. some; above = λ j. some }
   highest-within (c ∷ cs) n keep hc some h =
       let r : Highest = highest n (λ j. keep (suc j)) cs in
       let n₁ : ℕ = n + length (r .cells) in
@@ -176,7 +147,7 @@ module _ (s m : ℕ) where
       let rest : HighestWithin s m r = highest-within cs n (λ j. keep (suc j)) (λ j. hc (suc j)) some (omega arith) in
       let this : LevelWithin s m v = level-within n₁ (keep 0) (c .0) (c .1) (code (r .above) 0) (hc 0 .0) (hc 0 .1) (rest .above 0) (omega arith) in
       record {
-        operands = append-within (r .cells) (v .cells) (rest .operands) (this .operands);
+        operands = append-within s m (r .cells) (v .cells) (rest .operands) (this .operands);
         nets = λ j. elim j [ zero ↦ this .net | suc i ↦ rest .nets i ];
         above = λ j. elim j [ zero ↦ this .above | suc i ↦ rest .above i ];
       }
@@ -184,7 +155,7 @@ module _ (s m : ℕ) where
   row-of-pairs : (cs : List (CellNo × CellNo)) (n : ℕ) (keep : ℕ → Bool) → PairsBelow cs → 0 < m → n + length ((parallelRow n keep cs) .cells) ≤ m
       → HighestWithin s m (parallelRow n keep cs)
   unfolding parallelRow
-  row-of-pairs [] n keep hc some h = record { operands = none-within; nets = λ j. some; above = λ j. some }
+  row-of-pairs [] n keep hc some h = record { operands = none-within s m; nets = λ j. some; above = λ j. some }
   row-of-pairs (c ∷ cs) n keep hc some h =
       let r : Highest = highest n (λ j. keep (suc j)) cs in
       let n₁ : ℕ = n + length (r .cells) in
@@ -197,7 +168,7 @@ module _ (s m : ℕ) where
       let both : NewWithin s m o × NewWithin s m b =
       last-within n₁ (keep 0) (c .0) (c .1) x (hc 0 .0) (hc 0 .1) (rest .above 0) (omega arith) in
       record {
-        operands = append-within (r .cells) last (rest .operands) (append-within (o .cells) (b .cells) (both .0 .operands) (both .1 .operands));
+        operands = append-within s m (r .cells) last (rest .operands) (append-within s m (o .cells) (b .cells) (both .0 .operands) (both .1 .operands));
         nets = λ j. elim j [ zero ↦ both .1 .net | suc i ↦ rest .nets i ];
         above = rest .above;
       }

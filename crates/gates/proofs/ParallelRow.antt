@@ -8,10 +8,13 @@ use native.Mathlib.Nat.{add-zero, zero-add, add-suc, suc-add, not-suc-le-zero, l
 use lib.ListN.{length, set, drop, getD, length-set, drop-of-length-le}
 use lib.Seq.{drop-cons}
 use Rattle.number.specs.declared.CellNo.{CellNo}
-use Rattle.gates.specs.Cells.{New, low, orAt, butnotAt}
+use Rattle.limits.specs.Limits.{maxCodes}
+use Rattle.cells.specs.Cells.{low}
+use Rattle.gates.specs.Folding.{New, orAt, butnotAt}
 use Rattle.gates.specs.Rows.{code, onlyIf, pairs, Level, levelAt, lastAt, Highest, highest, parallelRow}
-use Rattle.gates.specs.Store.{Wrote, Makes, MakesLevel, MakesHighest}
+use Rattle.gates.specs.Store.{parallelCells, Wrote, Makes, MakesLevel, MakesHighest}
 use Rattle.gates.proofs.Laws.{wrote-none, wrote-more}
+use Rattle.gates.proofs.OrRow.{any}
 
 -- one code of a parallel: m, the butnot where it is kept, x
 pub level-makes : {l l₁ l₂ l₃ : List ℕ} {n n₁ n₂ n₃ : ℕ} {m b y : CellNo} (p q x : CellNo) (keep : Bool)
@@ -73,11 +76,11 @@ pub record Falling (l₀ : List ℕ) (n₀ : ℕ) (keep : ℕ → Bool) (a b : L
   pub wrote : Wrote l₀ l n₀ n ((upper n₀ keep a b j) .cells)
   pub out : drop j nets ≡ (upper n₀ keep a b j) .nets
   pub above : x ≡ code ((upper n₀ keep a b j) .above) 0
-  pub la : length a ≡ 10
-  pub lb : length b ≡ 10
-  pub ln : length nets ≡ 10
-  pub most : j ≤ 10
-  pub few : n + 3 * j ≤ n₀ + 30
+  pub la : length a ≡ maxCodes
+  pub lb : length b ≡ maxCodes
+  pub ln : length nets ≡ maxCodes
+  pub most : j ≤ maxCodes
+  pub few : n + 3 * j ≤ n₀ + 3 * maxCodes
 
 -- The loop's invariant: that, and it stops at code 2.
 pub record Looping (l₀ : List ℕ) (n₀ : ℕ) (keep : ℕ → Bool) (a b : List CellNo) (l : List ℕ) (nets : List CellNo) (n : ℕ) (x : CellNo) (j : ℕ) : Type 0 where
@@ -91,17 +94,17 @@ highest-nil : (n : ℕ) (keep : ℕ → Bool) → highest n keep [] ≡ none
 unfolding highest none
 highest-nil n keep = refl
 
-pub looping-start : (l : List ℕ) (n : ℕ) (keep : ℕ → Bool) (a b nets : List CellNo) → length a ≡ 10 → length b ≡ 10 → length nets ≡ 10
-    → Looping l n keep a b l nets n low 10
+pub looping-start : (l : List ℕ) (n : ℕ) (keep : ℕ → Bool) (a b nets : List CellNo) → length a ≡ maxCodes → length b ≡ maxCodes → length nets ≡ maxCodes
+    → Looping l n keep a b l nets n low maxCodes
 unfolding none
 looping-start l n keep a b nets ha hb hn =
-    let lp : length (pairs a b) ≡ 10 = pairs-length a b (ha ∙ sym hb) ∙ ha in
-    let e : upper n keep a b 10 ≡ none =
-    ap (highest n (fromOn keep 10)) (drop-of-length-le (pairs a b) {i = 10} (omega arith)) ∙ highest-nil n (fromOn keep 10) in
+    let lp : length (pairs a b) ≡ maxCodes = pairs-length a b (ha ∙ sym hb) ∙ ha in
+    let e : upper n keep a b maxCodes ≡ none =
+    ap (highest n (fromOn keep maxCodes)) (drop-of-length-le (pairs a b) {i = maxCodes} (omega arith)) ∙ highest-nil n (fromOn keep maxCodes) in
     record {
       falling = record {
         wrote = rw e (wrote-none l n);
-        out = rw e (drop-of-length-le nets {i = 10} (omega arith));
+        out = rw e (drop-of-length-le nets {i = maxCodes} (omega arith));
         above = rw e refl;
         la = ha;
         lb = hb;
@@ -131,13 +134,13 @@ unfolding parallelRow fromOn
 parallel-cons n keep c cs = refl
 
 -- the pair of code j, before those above it
-next-pair : (a b : List CellNo) (j : ℕ) → length a ≡ 10 → length b ≡ 10 → j < 10 → drop j (pairs a b) ≡ (code a j, code b j) ∷ drop (suc j) (pairs a b)
+next-pair : (a b : List CellNo) (j : ℕ) → length a ≡ maxCodes → length b ≡ maxCodes → j < maxCodes → drop j (pairs a b) ≡ (code a j, code b j) ∷ drop (suc j) (pairs a b)
 next-pair a b j la lb lt =
-    let lp : length (pairs a b) ≡ 10 = pairs-length a b (la ∙ sym lb) ∙ la in
+    let lp : length (pairs a b) ≡ maxCodes = pairs-length a b (la ∙ sym lb) ∙ la in
     drop-cons (pairs a b) j (low, low) (omega arith) ∙ ap (λ (c : CellNo × CellNo). c ∷ drop (suc j) (pairs a b)) (pairs-at a b j)
 
 -- one code more
-module _ (n₀ : ℕ) (keep : ℕ → Bool) (a b : List CellNo) (j : ℕ) (la : length a ≡ 10) (lb : length b ≡ 10) (lt : j < 10) where
+module _ (n₀ : ℕ) (keep : ℕ → Bool) (a b : List CellNo) (j : ℕ) (la : length a ≡ maxCodes) (lb : length b ≡ maxCodes) (lt : j < maxCodes) where
   upper-step : let r : Highest = upper n₀ keep a b (suc j) in
       upper n₀ keep a b j ≡ onLevel r (levelAt (n₀ + length (r .cells)) (keep j) (code a j) (code b j) (code (r .above) 0))
   unfolding fromOn
@@ -150,17 +153,11 @@ drop-set [] j x h = absurd (not-suc-le-zero h)
 drop-set (y ∷ l) zero x h = refl
 drop-set (y ∷ l) (suc j) x h = drop-set l j x (le-of-suc-le-suc h)
 
--- inside a row it does not matter what stands past its end
-any : (l : List CellNo) (j : ℕ) (d : CellNo) → j < length l → getD l j d ≡ code l j
-any [] j d h = absurd (not-suc-le-zero h)
-any (y ∷ l) zero d h = refl
-any (y ∷ l) (suc j) d h = any l j d (le-of-suc-le-suc h)
-
 module _ {l₀ : List ℕ} {n₀ : ℕ} {keep : ℕ → Bool} {a b : List CellNo} {l : List ℕ} {nets : List CellNo} {n : ℕ} {x : CellNo} where
   falling-down : {l′ : List ℕ} {n′ : ℕ} {c y : CellNo} (j : ℕ) (d : CellNo) → Falling l₀ n₀ keep a b l nets n x (suc j)
       → MakesLevel 3 (levelAt n (keep j) (getD a j d) (getD b j d) x) l l′ n n′ c y → Falling l₀ n₀ keep a b l′ (set nets j c) n′ y j
   falling-down {l′} {n′} {c} {y} j d f m₀ =
-      let lt : j < 10 = f .most in
+      let lt : j < maxCodes = f .most in
       let r : Highest = upper n₀ keep a b (suc j) in
       let m : MakesLevel 3 (levelAt (n₀ + length (r .cells)) (keep j) (code a j) (code b j) (code (r .above) 0)) l l′ n n′ c y =
       rw (← (f .wrote .counted), ← (f .above), ← (any a j d (omega (arith, f .la))), ← (any b j d (omega (arith, f .lb)))) m₀ in
@@ -188,7 +185,7 @@ module _ {l₀ : List ℕ} {n₀ : ℕ} {keep : ℕ → Bool} {a b : List CellNo
   pub looping-end : {l₁ l₂ : List ℕ} {n₁ n₂ : ℕ} {c₁ y c₀ : CellNo} (j : ℕ) (d : CellNo) → Looping l₀ n₀ keep a b l nets n x j → j ≤ 2
       → MakesLevel 3 (levelAt n (keep 1) (getD a 1 d) (getD b 1 d) x) l l₁ n n₁ c₁ y
       → Makes 2 (lastAt n₁ (keep 0) (getD a 0 d) (getD b 0 d) y) l₁ l₂ n₁ n₂ c₀
-      → MakesHighest 29 (parallelRow n₀ keep (pairs a b)) l₀ l₂ n₀ n₂ (set (set nets 1 c₁) 0 c₀) x
+      → MakesHighest parallelCells (parallelRow n₀ keep (pairs a b)) l₀ l₂ n₀ n₂ (set (set nets 1 c₁) 0 c₀) x
   looping-end {l₁} {l₂} {n₁} {n₂} {c₁} {y} {c₀} j d g h m₁ m₀ =
       let ej : j ≡ 2 = omega (arith, g .least) in
       let f₂ : Falling l₀ n₀ keep a b l nets n x 2 = rw ej at (g .falling) in

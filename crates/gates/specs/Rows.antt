@@ -1,12 +1,14 @@
--- Rows of code nets: "one net for each code up to 1+d, d enclosing traps; unnamed nets are 0". A row has ten nets, one for each code that eight traps
--- one in another allow; those above 1+d are 0.
+-- Rows of code nets: "one net for each code up to 1+d, d enclosing traps; unnamed nets are 0". A row has a net for each code that the most
+-- traps one in another allow; those above 1+d are 0.
 use mathlib.Core.Bool.{Bool, true, false}
 use mathlib.Core.List.{List, [], _∷_, _++_, map}
 use Prim.Native.Nat.{ℕ, suc, _+_, _-_}
 use lib.ListN.{length, getD, drop, replicate}
 use Rattle.number.specs.declared.CellNo.{CellNo}
-use Rattle.gates.specs.declared.Cell.{Cell}
-use Rattle.gates.specs.Cells.{New, low, old, orAt, butnotAt}
+use Rattle.limits.specs.Limits.{maxCodes}
+use Rattle.cells.specs.declared.Cell.{Cell}
+use Rattle.cells.specs.Cells.{low}
+use Rattle.gates.specs.Folding.{New, old, orAt, butnotAt}
 
 -- the net of code j
 abbrev pub code : List CellNo → ℕ → CellNo
@@ -14,7 +16,7 @@ code ks j = getD ks j low
 
 -- "code k is g": the row that names no other net
 abbrev pub only : ℕ → CellNo → List CellNo
-only k g = replicate k low ++ (g ∷ replicate (9 - k) low)
+only k g = replicate k low ++ (g ∷ replicate (maxCodes - suc k) low)
 
 -- the row with y for its code 0
 abbrev pub withCode0 : CellNo → List CellNo → List CellNo

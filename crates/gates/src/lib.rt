@@ -1,109 +1,23 @@
-// Cells, the lent column that holds them, new cells with their folding, and rows of code nets.
+// New cells with their folding, which go into a lent column, and rows of code nets.
+use cells::Cell;
+use cells::Gate;
+use limits::MAX_CODES;
 use number::CellNo;
-use number::SignalNo;
 ghost use mathlib.Core.Path.{_≡_};
-ghost use Prim.Native.Nat.{_+_, _*_, _<_};
-ghost use lib.ListN.{set, getD};
-ghost use Rattle.number.specs.Counts.{ofCell};
+ghost use Prim.Native.Nat.{_+_, _<_};
 ghost use Rattle.bits.specs.Bits.{has};
-ghost use Rattle.gates.specs.Cells as Cells;
-ghost use Rattle.gates.specs.Cells.{isLow, new, orAt, andAt, butnotAt};
+ghost use Rattle.limits.specs.Limits.{maxCodes};
+ghost use Rattle.cells.specs.Cells.{isLow};
+ghost use Rattle.gates.specs.Folding.{new, firstLow, secondLow, gateAt, orAt, andAt, butnotAt};
 ghost use Rattle.gates.specs.Rows as Rows;
 ghost use Rattle.gates.specs.Rows.{withCode0, orRow, trapRow, pairs, onlyIf, levelAt, lastAt, parallelRow};
-ghost use Rattle.gates.specs.Store.{word, cellIn, Makes, MakesRow, MakesLevel, MakesHighest};
-
-// The paper's kinds, 0 to 6 in its order.
-pub enum Cell {
-    Low,
-    High,
-    Input(SignalNo),
-    Or(CellNo, CellNo),
-    And(CellNo, CellNo),
-    Butnot(CellNo, CellNo),
-    Register(CellNo),
-}
-
-pub fn low() -> CellNo
-    ensures { λ r. ⌜ r ≡ Cells.low ⌝ }
-{
-    CellNo::new(0)
-}
-
-pub fn high() -> CellNo
-    ensures { λ r. ⌜ r ≡ Cells.high ⌝ }
-{
-    CellNo::new(1)
-}
+ghost use Rattle.gates.specs.Store.{parallelCells, Makes, MakesRow, MakesLevel, MakesHighest};
 
 // Whether a net folds.
 fn is_low(x: CellNo) -> bool
     ensures { λ r. ⌜ r ≡ isLow x ⌝ }
 {
     x.number() == 0
-}
-
-fn packed(kind: u64, x: CellNo, y: CellNo) -> u64
-    requires { ⌜ kind < 8 ⌝ }
-    ensures { λ r. ⌜ r ≡ kind + 8 * ofCell x + 524288 * ofCell y ⌝ }
-{
-    kind + 8 * (x.number() as u64) + 524288 * (y.number() as u64)
-}
-
-// A cell in one word.
-pub fn word_of(c: Cell) -> u64
-    ensures { λ r. ⌜ r ≡ word c ⌝ }
-{
-    match c {
-        Cell::Low => 0,
-        Cell::High => 1,
-        Cell::Input(s) => 2 + 8 * (s.number() as u64),
-        Cell::Or(x, y) => packed(3, x, y),
-        Cell::And(x, y) => packed(4, x, y),
-        Cell::Butnot(x, y) => packed(5, x, y),
-        Cell::Register(x) => 6 + 8 * (x.number() as u64),
-    }
-}
-
-// The cell of a word.
-pub fn cell_in(w: u64) -> Cell
-    ensures { λ r. ⌜ r ≡ cellIn w ⌝ }
-{
-    let first = (w / 8 % 65536) as u16;
-    let x = CellNo::new(first);
-    let y = CellNo::new((w / 524288 % 65536) as u16);
-    // Low has an arm of its own beside the last: with seven of the eight values named, the jump needs no test.
-    match w % 8 {
-        0 => Cell::Low,
-        1 => Cell::High,
-        2 => Cell::Input(SignalNo::new(first)),
-        3 => Cell::Or(x, y),
-        4 => Cell::And(x, y),
-        5 => Cell::Butnot(x, y),
-        6 => Cell::Register(x),
-        _ => Cell::Low,
-    }
-}
-
-// The cell n of the column; low where the column has ended.
-pub fn cell_at(cells: &[u64], n: CellNo) -> Cell
-    ensures { λ r. ⌜ r ≡ cellIn (getD (now (cells .entry)) (ofCell n) 0) ⌝ }
-{
-    let at = n.number() as usize;
-    if cells.len() <= at {
-        return Cell::Low;
-    }
-    cell_in(cells[at])
-}
-
-// The cell n becomes c: a new cell, or a reserved one whose last operand is filled. Past the column's end nothing is stored.
-pub fn fill(cells: &mut [u64], n: CellNo, c: Cell)
-    ensures { λ _. ⌜ now (cells .exit) ≡ set (now (cells .entry)) (ofCell n) (word c) ⌝ }
-{
-    let at = n.number() as usize;
-    let w = word_of(c);
-    if at < cells.len() {
-        cells[at] = w;
-    }
 }
 
 // The next number, and the net that was made.
@@ -118,65 +32,88 @@ pub fn push(cells: &mut [u64], count: u16, c: Cell) -> Put
     ensures { λ r. ⌜ Makes 1 (new count c) (now (cells .entry)) (now (cells .exit)) count (r .count) (r .cell) ⌝ }
 {
     let cell = CellNo::new(count);
-    fill(cells, cell, c);
+    cells::fill(cells, cell, c);
     Put {
         count: count + 1,
         cell,
     }
 }
 
-// Low folds in or, and, butnot, and makes no cell. Nothing else folds.
+// "or with 0 is the other operand, and with 0 is 0, .. butnot 0 y is 0.": a gate whose first operand is low.
+fn first_low(g: Gate, y: CellNo) -> CellNo
+    ensures { λ r. ⌜ r ≡ firstLow g y ⌝ }
+{
+    match g {
+        Gate::Or => y,
+        Gate::And => cells::low(),
+        Gate::Butnot => cells::low(),
+    }
+}
+
+// "or with 0 is the other operand, and with 0 is 0, butnot x 0 is x": a gate whose second operand is low.
+fn second_low(g: Gate, x: CellNo) -> CellNo
+    ensures { λ r. ⌜ r ≡ secondLow g x ⌝ }
+{
+    match g {
+        Gate::Or => x,
+        Gate::And => cells::low(),
+        Gate::Butnot => x,
+    }
+}
+
+// Low folds in a gate, and makes no cell. Nothing else folds.
+fn folded(cells: &mut [u64], count: u16, g: Gate, x: CellNo, y: CellNo) -> Put
+    requires { ⌜ count + 1 < 65536 ⌝ }
+    ensures { λ r. ⌜ Makes 1 (gateAt g count x y) (now (cells .entry)) (now (cells .exit)) count (r .count) (r .cell) ⌝ }
+{
+    if is_low(x) {
+        return Put {
+            count,
+            cell: first_low(g, y),
+        };
+    }
+    if is_low(y) {
+        return Put {
+            count,
+            cell: second_low(g, x),
+        };
+    }
+    push(cells, count, Cell::Gate(g, x, y))
+}
+
 pub fn or(cells: &mut [u64], count: u16, x: CellNo, y: CellNo) -> Put
     requires { ⌜ count + 1 < 65536 ⌝ }
     ensures { λ r. ⌜ Makes 1 (orAt count x y) (now (cells .entry)) (now (cells .exit)) count (r .count) (r .cell) ⌝ }
 {
-    if is_low(x) {
-        return Put { count, cell: y };
-    }
-    if is_low(y) {
-        return Put { count, cell: x };
-    }
-    push(cells, count, Cell::Or(x, y))
+    folded(cells, count, Gate::Or, x, y)
 }
 
 pub fn and(cells: &mut [u64], count: u16, x: CellNo, y: CellNo) -> Put
     requires { ⌜ count + 1 < 65536 ⌝ }
     ensures { λ r. ⌜ Makes 1 (andAt count x y) (now (cells .entry)) (now (cells .exit)) count (r .count) (r .cell) ⌝ }
 {
-    if is_low(x) {
-        return Put { count, cell: low() };
-    }
-    if is_low(y) {
-        return Put { count, cell: low() };
-    }
-    push(cells, count, Cell::And(x, y))
+    folded(cells, count, Gate::And, x, y)
 }
 
 pub fn butnot(cells: &mut [u64], count: u16, x: CellNo, y: CellNo) -> Put
     requires { ⌜ count + 1 < 65536 ⌝ }
     ensures { λ r. ⌜ Makes 1 (butnotAt count x y) (now (cells .entry)) (now (cells .exit)) count (r .count) (r .cell) ⌝ }
 {
-    if is_low(x) {
-        return Put { count, cell: low() };
-    }
-    if is_low(y) {
-        return Put { count, cell: x };
-    }
-    push(cells, count, Cell::Butnot(x, y))
+    folded(cells, count, Gate::Butnot, x, y)
 }
 
 // The row whose one net is g, at code k.
-pub fn only(k: usize, g: CellNo) -> [CellNo; 10]
-    requires { ⌜ k < 10 ⌝ }
+pub fn only(k: usize, g: CellNo) -> [CellNo; MAX_CODES]
+    requires { ⌜ k < maxCodes ⌝ }
     ensures { λ r. ⌜ r ≡ Rows.only k g ⌝ }
 {
-    let mut a = [low(); 10];
+    let mut a = [cells::low(); MAX_CODES];
     a[k] = g;
     a
 }
 
 // The row with y for its code 0.
-pub fn with_code0(y: CellNo, c: [CellNo; 10]) -> [CellNo; 10]
+pub fn with_code0(y: CellNo, c: [CellNo; MAX_CODES]) -> [CellNo; MAX_CODES]
     ensures { λ r. ⌜ r ≡ withCode0 y c ⌝ }
 {
     let mut a = c;
@@ -185,27 +122,36 @@ pub fn with_code0(y: CellNo, c: [CellNo; 10]) -> [CellNo; 10]
 }
 
 // The row of a trap, whose code 0 is o.
-pub fn trap_row(o: CellNo, c: [CellNo; 10]) -> [CellNo; 10]
+pub fn trap_row(o: CellNo, c: [CellNo; MAX_CODES]) -> [CellNo; MAX_CODES]
     ensures { λ r. ⌜ r ≡ trapRow o c ⌝ }
 {
-    [o, c[1], c[3], c[4], c[5], c[6], c[7], c[8], c[9], low()]
+    let mut a = [cells::low(); MAX_CODES];
+    a[0] = o;
+    a[1] = c[1];
+    let mut j: usize = 2;
+    while j + 1 < MAX_CODES {
+        let above = c[j + 1];
+        a[j] = above;
+        j += 1;
+    }
+    a
 }
 
 // The next number, and a row of nets.
 pub struct Nets {
     pub count: u16,
-    pub nets: [CellNo; 10],
+    pub nets: [CellNo; MAX_CODES],
 }
 
 // Two rows, or'ed upward.
-pub fn or_row(cells: &mut [u64], count: u16, a: [CellNo; 10], b: [CellNo; 10]) -> Nets
-    requires { ⌜ count + 10 < 65536 ⌝ }
-    ensures { λ r. ⌜ MakesRow 10 (orRow count a b) (now (cells .entry)) (now (cells .exit)) count (r .count) (r .nets) ⌝ }
+pub fn or_row(cells: &mut [u64], count: u16, a: [CellNo; MAX_CODES], b: [CellNo; MAX_CODES]) -> Nets
+    requires { ⌜ count + maxCodes < 65536 ⌝ }
+    ensures { λ r. ⌜ MakesRow maxCodes (orRow count a b) (now (cells .entry)) (now (cells .exit)) count (r .count) (r .nets) ⌝ }
 {
     let mut nets = b;
     let mut n = count;
     let mut j: usize = 0;
-    while j < 10 {
+    while j < MAX_CODES {
         let p = or(cells, n, a[j], b[j]);
         let net = p.cell;
         nets[j] = net;
@@ -223,7 +169,10 @@ fn kept(cells: &mut [u64], count: u16, m: CellNo, x: CellNo, keep: bool) -> Put
     if keep {
         return butnot(cells, count, m, x);
     }
-    Put { count, cell: low() }
+    Put {
+        count,
+        cell: cells::low(),
+    }
 }
 
 // The next number, a code's net, and x after it.
@@ -262,7 +211,7 @@ fn code_zero(cells: &mut [u64], count: u16, p: CellNo, q: CellNo, x: CellNo, kee
 // The next number, a parallel's row of nets, and x after code 2.
 pub struct Highest {
     pub count: u16,
-    pub nets: [CellNo; 10],
+    pub nets: [CellNo; MAX_CODES],
     pub kill: CellNo,
 }
 
@@ -270,18 +219,18 @@ pub struct Highest {
 pub fn parallel_row(
     cells: &mut [u64],
     count: u16,
-    a: [CellNo; 10],
-    b: [CellNo; 10],
+    a: [CellNo; MAX_CODES],
+    b: [CellNo; MAX_CODES],
     keep: u64,
 ) -> Highest
-    requires { ⌜ count + 29 < 65536 ⌝ }
-    ensures { λ r. ⌜ MakesHighest 29 (parallelRow count (has keep) (pairs a b)) (now (cells .entry)) (now (cells .exit)) count (r .count)
+    requires { ⌜ count + parallelCells < 65536 ⌝ }
+    ensures { λ r. ⌜ MakesHighest parallelCells (parallelRow count (has keep) (pairs a b)) (now (cells .entry)) (now (cells .exit)) count (r .count)
         (r .nets) (r .kill) ⌝ }
 {
-    let mut nets = [low(); 10];
+    let mut nets = [cells::low(); MAX_CODES];
     let mut n = count;
-    let mut x = low();
-    let mut j: usize = 10;
+    let mut x = cells::low();
+    let mut j: usize = MAX_CODES;
     while 2 < j {
         j -= 1;
         let v = one_code(cells, n, a[j], b[j], x, bits::member(keep, j as u32));
@@ -293,7 +242,8 @@ pub fn parallel_row(
     let v = one_code(cells, n, a[1], b[1], x, bits::member(keep, 1));
     let net = v.net;
     nets[1] = net;
-    let w = code_zero(cells, v.count, a[0], b[0], v.above, bits::member(keep, 0));
+    let above = v.above;
+    let w = code_zero(cells, v.count, a[0], b[0], above, bits::member(keep, 0));
     let last = w.cell;
     nets[0] = last;
     Highest {

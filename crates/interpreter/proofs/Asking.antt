@@ -1,20 +1,19 @@
 -- What a reaction does depends on E at the signals alone that the program asks for.
-use mathlib.Core.Path.{_≡_, refl, sym, ap, _∙_}
-use mathlib.Core.Bool.{Bool, true, false, _||_, _&&_, false≢true}
+use mathlib.Core.Path.{_≡_, refl, sym, _∙_}
+use mathlib.Core.Bool.{Bool, true, false, _||_, false≢true}
 use mathlib.Core.List.{List}
-use Prim.Native.Nat.{ℕ, suc, zero, _+_, _*_, _/_, _%_, _^_, _<_, _≤_, min}
+use Prim.Native.Nat.{ℕ, _<_, _≤_}
 use native.Mathlib.Omega.{arith}
-use native.Mathlib.Decide.{decLt}
 use lib.Dec.{eqb}
-use lib.Bits.{bitAnd, and-shr, and-step}
-use borrow.Author.Tests.{eq-eqb, eqb-true, eqb-false}
+use borrow.Author.Tests.{eq-eqb, eqb-true}
 use Rattle.number.specs.declared.HaltNo.{HaltNo}
 use Rattle.number.specs.declared.SignalNo.{SignalNo}
 use Rattle.number.specs.declared.StmtNo.{StmtNo}
 use Rattle.number.specs.Counts.{ofSignal}
 use Rattle.number.specs.Number.{pick}
-use Rattle.bits.specs.Bits.{has, signalsIn}
-use Rattle.bits.proofs.Laws.{has-past}
+use Rattle.number.proofs.Bools.{or-left, or-right, or-cases}
+use Rattle.bits.specs.Bits.{has, signalBit, signalsIn, width}
+use Rattle.bits.specs.Code.{SameAt}
 use Rattle.sheet.specs.declared.Leaf.{Leaf}
 use Rattle.sheet.specs.declared.Leaf.the-variants.{Nothing, Halt, Emit, Exit}
 use Rattle.sheet.specs.declared.Unary.{Unary}
@@ -28,19 +27,7 @@ use Rattle.sheet.specs.Rows.{haltsOn, rowAt, Holds}
 use Rattle.sheet.proofs.Walk.{is-leaf, is-one, is-two, holds-second}
 use Rattle.rules.specs.Rules.{Signals, Halts, start, resume}
 use Rattle.rules.specs.States.{State, haltsOf, react}
-use Rattle.interpreter.specs.Tested.{asksOne, asksTwo, asks, Covers, Tested, SameAt}
-
-or-left : (a b : Bool) → a ≡ true → (a || b) ≡ true
-or-left true b e = refl
-or-left false b e = absurd (false≢true e)
-
-or-right : (a b : Bool) → b ≡ true → (a || b) ≡ true
-or-right true b e = refl
-or-right false b e = e
-
-or-true : (a b : Bool) {A : Type 0} → (a ≡ true → A) → (b ≡ true → A) → (a || b) ≡ true → A
-or-true true b f g e = f refl
-or-true false b f g e = g e
+use Rattle.interpreter.specs.Tested.{asksOne, asksTwo, asks, Covers, Tested}
 
 -- E and F are alike where t asks
 abbrev pub Alike : Signals → Signals → Stmt → Type 0
@@ -103,61 +90,23 @@ module _ (E F : Signals) where
   unfolding react pick
   same-react S t h = rw (same-start t h, same-resume (haltsOf S) t h)
 
--- two sets' common part: bit by bit
-and-low : (a b : ℕ) → bitAnd a b % 2 ≡ min (a % 2) (b % 2)
-and-low a b =
-    let e : bitAnd a b ≡ bitAnd (a / 2) (b / 2) * 2 + min (a % 2) (b % 2) = and-step a b in
-    omega arith
+-- sets that are the same at what covers t are alike for it
+pub alike-sets : {w a b : ℕ} {r : Bool} → SameAt width w a b r → r ≡ true → (t : Stmt) → Covers w (asks t)
+    → Alike (signalsIn a) (signalsIn b) t
+alike-sets k on t c s asked = k .same on (signalBit s) (c .covers s asked)
 
-and-bit : (x y : ℕ) → x < 2 → y < 2 → eqb (min x y) 1 ≡ (eqb x 1 && eqb y 1)
-and-bit zero zero hx hy = refl
-and-bit zero (suc zero) hx hy = refl
-and-bit (suc zero) zero hx hy = refl
-and-bit (suc zero) (suc zero) hx hy = refl
-and-bit zero (suc (suc y)) hx hy = absurd (omega arith)
-and-bit (suc zero) (suc (suc y)) hx hy = absurd (omega arith)
-and-bit (suc (suc x)) y hx hy = absurd (omega arith)
-
-has-common : (a b j : ℕ) → has (bitAnd a b) j ≡ (has a j && has b j)
-unfolding has
-has-common a b j =
-    rw (and-shr a b j, and-low (a / 2 ^ j) (b / 2 ^ j)) (and-bit (a / 2 ^ j % 2) (b / 2 ^ j % 2) (omega arith) (omega arith))
-
-and-on : (a b : Bool) → b ≡ true → (a && b) ≡ a
-and-on true b e = e
-and-on false b e = refl
-
--- a is there where w is
-at-common : (w a j : ℕ) → has w j ≡ true → has (bitAnd a w) j ≡ has a j
-at-common w a j on = has-common a w j ∙ and-on (has a j) (has w j) on
-
-pub same-at : (w a b : ℕ) → a < 2 ^ 64 → b < 2 ^ 64 → SameAt w a b (eqb (bitAnd a w) (bitAnd b w))
-same-at w a b small-a small-b = record { same = λ e j on. go e j on (decLt j 64); differ = differ }
-  where
-    go : eqb (bitAnd a w) (bitAnd b w) ≡ true → (j : ℕ) → (j < 64 → has w j ≡ true) → Dec (j < 64) → has a j ≡ has b j
-    go e j on (yes h) =
-        let both : bitAnd a w ≡ bitAnd b w = eqb-true (bitAnd a w) (bitAnd b w) e in
-        sym (at-common w a j (on h)) ∙ ap (λ (x : ℕ). has x j) both ∙ at-common w b j (on h)
-    go e j on (no h) = has-past 64 a j small-a (omega arith) ∙ sym (has-past 64 b j small-b (omega arith))
-
-    differ : eqb (bitAnd a w) (bitAnd b w) ≡ false → a ≡ b → ⊥
-    differ e same = eqb-false (bitAnd a w) (bitAnd b w) e (ap (λ (x : ℕ). bitAnd x w) same)
-
--- words that are the same at what covers t are alike for it
-pub alike-words : {w a b : ℕ} {r : Bool} → SameAt w a b r → r ≡ true → (t : Stmt) → Covers w (asks t) → Alike (signalsIn a) (signalsIn b) t
-alike-words k on t c s asked = k .same on (ofSignal s) (c .covers s asked)
-
--- what the word of a statement covers, by its parts'
+-- what the set of a statement covers, by its parts'
 pub covers-none : {X : Signals} (w : ℕ) → ((s : SignalNo) → X s ≡ false) → Covers w X
 covers-none w none = record { covers = λ s on h. absurd (false≢true (sym (none s) ∙ on)) }
 
-pub covers-only : {w : ℕ} (x : SignalNo) → ((j : ℕ) → has w j ≡ (has 0 j || eqb j (ofSignal x))) → Covers w (only x)
-covers-only {w} x adds = record { covers = λ s on h. adds (ofSignal s) ∙ or-right (has 0 (ofSignal s)) (eqb (ofSignal s) (ofSignal x)) on }
+pub covers-only : {w : ℕ} (x : SignalNo) (z : ℕ) → ((j : ℕ) → has w j ≡ (has z j || eqb j (signalBit x))) → Covers w (only x)
+covers-only {w} x z adds =
+    record { covers = λ s on h. adds (signalBit s) ∙ or-right (has z (signalBit s)) (eqb (signalBit s) (signalBit x)) on }
 
-pub covers-past : {w : ℕ} (x : SignalNo) → 64 ≤ ofSignal x → Covers w (only x)
+pub covers-past : {w : ℕ} (x : SignalNo) → width ≤ signalBit x → Covers w (only x)
 covers-past {w} x past = record { covers = λ s on h. absurd (far s on h) }
   where
-    far : (s : SignalNo) → eqb (ofSignal s) (ofSignal x) ≡ true → ofSignal s < 64 → ⊥
+    far : (s : SignalNo) → eqb (ofSignal s) (ofSignal x) ≡ true → signalBit s < width → ⊥
     far s on h =
         let e : ofSignal s ≡ ofSignal x = eqb-true (ofSignal s) (ofSignal x) on in
         omega (arith, e)
@@ -166,11 +115,11 @@ pub covers-join : {a b w : ℕ} {X Y : Signals} → Covers a X → Covers b Y �
     → Covers w (λ s. X s || Y s)
 covers-join {a} {b} {w} {X} {Y} l r joins = record { covers = covers }
   where
-    covers : (s : SignalNo) → (X s || Y s) ≡ true → ofSignal s < 64 → signalsIn w s ≡ true
+    covers : (s : SignalNo) → (X s || Y s) ≡ true → signalBit s < width → signalsIn w s ≡ true
     covers s on h =
-        joins (ofSignal s)
-        ∙ or-true (X s) (Y s) (λ x. or-left (has a (ofSignal s)) (has b (ofSignal s)) (l .covers s x h))
-        (λ y. or-right (has a (ofSignal s)) (has b (ofSignal s)) (r .covers s y h)) on
+        joins (signalBit s)
+        ∙ or-cases (X s) (Y s) (λ x. or-left (signalsIn a s) (signalsIn b s) (l .covers s x h))
+        (λ y. or-right (signalsIn a s) (signalsIn b s) (r .covers s y h)) on
 
 module _ (rows : List ℕ) (n : StmtNo) where
   pub tested-leaf : {l : Leaf} (w : ℕ) → rowAt rows n .head ≡ Zero l → Tested rows n w
@@ -187,8 +136,8 @@ module _ (rows : List ℕ) (n : StmtNo) where
           let k = is-one rows n a t h head in
           rw (k .is) (covers-join c (part .tested a (k .part) (k .holds)) joins)
 
-  pub tested-two : {b : Binary} {own p q w : ℕ} (sides : ℕ) → rowAt rows n .head ≡ Two b → Covers own (asksTwo b) → Tested rows (further n 1) p
-      → Tested rows (rowAt rows (further n 1) .end) q → ((j : ℕ) → has sides j ≡ (has p j || has q j))
+  pub tested-two : {b : Binary} {own p q w : ℕ} (sides : ℕ) → rowAt rows n .head ≡ Two b → Covers own (asksTwo b)
+      → Tested rows (further n 1) p → Tested rows (rowAt rows (further n 1) .end) q → ((j : ℕ) → has sides j ≡ (has p j || has q j))
       → ((j : ℕ) → has w j ≡ (has own j || has sides j)) → Tested rows n w
   unfolding asks
   tested-two {b} {own} {p} {q} {w} sides head c left right both joins = record { tested = tested }

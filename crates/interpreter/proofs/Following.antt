@@ -2,39 +2,45 @@
 use mathlib.Core.Path.{_≡_}
 use mathlib.Core.Bool.{true}
 use mathlib.Core.List.{List}
-use Prim.Native.Nat.{ℕ, _+_, _<_, _≤_}
-use lib.ListN.{length, getD, set}
+use Prim.Native.Nat.{ℕ, _+_, _*_, _/_, _<_, _≤_}
+use native.Mathlib.Omega.{arith}
+use lib.ListN.{length, getD}
+use lib.Seq.{sets}
 use Rattle.number.specs.declared.HaltNo.{HaltNo}
 use Rattle.number.specs.Counts.{haltNo}
-use Rattle.bits.specs.Bits.{has}
+use Rattle.bits.specs.Bits.{has, words, whole, wordsOf, setsIn}
+use Rattle.bits.proofs.Columns.{sets-length}
 use Rattle.sheet.specs.Stmt.{Stmt}
 use Rattle.sheet.specs.Rows.{Holds}
-use Rattle.rules.specs.declared.Reaction.{Reaction}
+use Rattle.rules.specs.declared.Yield.{Yield}
 use Rattle.rules.specs.States.{fits}
 use Rattle.rules.specs.Words.{Next, root}
 use Rattle.run.specs.Words.{eventOk}
 use Rattle.run.proofs.Going.{Upto, upto-none, signals-length, states-length, upto-next, upto-all, each-at}
-use Rattle.interpreter.specs.Settle.{Settling, AgreedAt}
 use Rattle.interpreter.specs.Interpret.{Moment}
-use Rattle.interpreter.specs.Many.{Runs, RanRows}
+use Rattle.interpreter.specs.Settle.{Settling, AgreedAt}
+use Rattle.interpreter.specs.Program.{MayRun, RanRows}
 use Rattle.interpreter.proofs.Interpreting.{moment-at}
-use Rattle.interpreter.proofs.Ready.{settling-rows}
+use Rattle.interpreter.proofs.Settling.{settling-rows}
 use Rattle.interpreter.proofs.Alone.{fits-again}
 
-module _ (rows : List ℕ) (start : ℕ) (events emissions states : List ℕ) where
+module _ (rows : List ℕ) (asked start : ℕ) (events emissions states : List ℕ) where
+  abbrev Pre : Type 0
+  Pre = MayRun rows asked start events emissions states
+
   -- the loop has come to event j
   pub record Followed (emissions′ states′ : List ℕ) (state j : ℕ) : Type 0 where
     pub upto : (a : HaltNo) (t : Stmt) → Holds rows root a t → Upto (Moment t) start events emissions states emissions′ states′ state j
-    pub fit : (p : Runs rows start events emissions states) → fits (has state) (p .read .root) ≡ true
+    pub fit : (p : MayRun rows asked start events emissions states) → fits (has state) (p .read .root) ≡ true
 
   pub followed-none : Followed emissions states start 0
   followed-none = record { upto = λ a t h. upto-none (Moment t) start events emissions states; fit = λ p. p .fit }
 
   module _ {emissions′ states′ : List ℕ} {state j : ℕ} (here : Followed emissions′ states′ state j) where
-    pub followed-all : length events ≤ j → RanRows rows start events emissions emissions′ states states′ state
+    pub followed-all : length events / words ≤ j → RanRows rows start events emissions emissions′ states states′ state
     followed-all end = record { ran = λ a t h. upto-all (Moment t) start events emissions states (here .upto a t h) end }
 
-    module _ (p : Runs rows start events emissions states) where
+    module _ (p : Pre) where
       own-upto : Upto (Moment (p .read .root)) start events emissions states emissions′ states′ state j
       own-upto = here .upto (haltNo 0) (p .read .root) (p .holds)
 
@@ -44,17 +50,23 @@ module _ (rows : List ℕ) (start : ℕ) (events emissions states : List ℕ) wh
       pub states-long : length states′ ≡ length states
       states-long = states-length (Moment (p .read .root)) start events emissions states own-upto
 
-    module _ (h : j < length events) where
-      event-ok : (p : Runs rows start events emissions states) → eventOk (p .read .inputs) (getD events j 0) ≡ true
-      event-ok p = each-at (eventOk (p .read .inputs)) events j h (p .own)
+    module _ (h : j < length events / words) {event : ℕ} (is : getD (setsIn events) j 0 ≡ event) where
+      event-ok : (p : Pre) → eventOk (p .read .inputs) event ≡ true
+      event-ok p = rw is at (each-at (eventOk (p .read .inputs)) (setsIn events) j (omega (arith, sets-length events)) (p .own))
 
-      pub followed-settling : Runs rows start events emissions states → Settling rows state (getD events j 0)
+      pub followed-settling : Pre → Settling rows state event
       followed-settling p = settling-rows (p .accepts) (p .holds) (here .fit p) (event-ok p)
 
-      pub followed-next : {r : Reaction} {next : ℕ} → AgreedAt rows state (getD events j 0) r → Next r next
-          → Followed (set emissions′ j (r .emits)) (set states′ j next) next (j + 1)
+      pub followed-next : {r : Yield} {next : ℕ} → AgreedAt rows state event r → Next r next
+          → let emissions″ : List ℕ = sets emissions′ (j * words) (wordsOf words (whole (r .emits))) in
+          let states″ : List ℕ = sets states′ (j * words) (wordsOf words next) in
+          Followed emissions″ states″ next (j + 1)
       followed-next {r} {next} agreed after =
+          let moment : (a : HaltNo) (t : Stmt) → Holds rows root a t → Moment t state event (whole (r .emits)) next =
+          λ a t holds. moment-at a t agreed after holds in
           record {
-            upto = λ a t holds. upto-next (Moment t) start events emissions states (here .upto a t holds) (r .emits) next h (moment-at a t agreed after holds);
-            fit = λ p. fits-again (p .accepts) (event-ok p) (here .fit p) (moment-at (haltNo 0) (p .read .root) agreed after (p .holds));
+            upto =
+                λ a t holds. upto-next (Moment t) start events emissions states (here .upto a t holds) (whole (r .emits)) next h is
+                (moment a t holds);
+            fit = λ p. fits-again (p .accepts) (event-ok p) (here .fit p) (moment (haltNo 0) (p .read .root) (p .holds));
           }

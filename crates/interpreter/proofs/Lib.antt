@@ -1,6 +1,7 @@
 pub mod Asking
 pub mod Settled
 pub mod Interpreting
-pub mod Ready
+pub mod Settling
 pub mod Alone
 pub mod Following
+pub mod Reacting

@@ -1,6 +1,6 @@
--- The loop that applies the rules: its word E is what the rounds make, and where nothing changes that is asked for the next one agrees with the rules.
-use mathlib.Core.Path.{_≡_, refl, sym, ap, _∙_, fun-ext}
-use mathlib.Core.Bool.{Bool, true, false, _||_}
+-- The loop that applies the rules: its set E is what the rounds make, and where nothing changes that is asked for the next one agrees.
+use mathlib.Core.Path.{_≡_, sym, ap, _∙_, fun-ext}
+use mathlib.Core.Bool.{Bool, true, _||_, or-comm}
 use mathlib.Core.List.{List}
 use Prim.Native.Nat.{ℕ, suc, _+_, _<_, _≤_}
 use native.Mathlib.Omega.{arith}
@@ -8,33 +8,28 @@ use native.Mathlib.Decide.{decLt}
 use lib.Dec.{eqb}
 use Rattle.number.specs.declared.HaltNo.{HaltNo}
 use Rattle.number.specs.declared.SignalNo.{SignalNo}
-use Rattle.number.specs.Counts.{signalNo, ofSignal}
-use Rattle.bits.specs.Bits.{has, signalsIn}
+use Rattle.number.specs.Counts.{signalNo}
+use Rattle.bits.specs.Bits.{has, signalBit, signalsIn, width, whole}
+use Rattle.bits.specs.Code.{SameAt}
 use Rattle.bits.proofs.Laws.{ext}
 use Rattle.sheet.specs.Stmt.{Stmt}
 use Rattle.sheet.specs.Read.{only}
 use Rattle.sheet.specs.Rows.{Holds}
-use Rattle.rules.specs.declared.Reaction.{Reaction}
+use Rattle.rules.specs.declared.Yield.{Yield}
 use Rattle.rules.specs.Rules.{Signals, Outcome}
 use Rattle.rules.specs.States.{tick, react}
 use Rattle.rules.specs.Words.{Reacted, root}
 use Rattle.agreement.specs.Rounds.{renewed, rounds}
 use Rattle.interpreter.specs.Settle.{Settling, Agreed, AgreedAt}
-use Rattle.interpreter.specs.Tested.{Tested, SameAt}
-use Rattle.interpreter.proofs.Asking.{alike-words, same-react}
+use Rattle.interpreter.specs.Tested.{Tested}
+use Rattle.interpreter.proofs.Asking.{alike-sets, same-react}
 
-or-swap : (a b : Bool) → (a || b) ≡ (b || a)
-or-swap true true = refl
-or-swap true false = refl
-or-swap false true = refl
-or-swap false false = refl
-
--- the word e is what so many rounds make, at most as many as it takes
+-- the set e is what so many rounds make, at most as many as it takes
 pub record Reached {rows : List ℕ} {state event : ℕ} (p : Settling rows state event) (e round : ℕ) : Type 0 where
   pub within : round ≤ p .limit
   pub is : (s : SignalNo) → signalsIn e s ≡ rounds (signalsIn event) (has state) (p .run .stmt) round s
 
--- the words of a round: tick was added to the event, and the emissions were joined to that
+-- the sets of a round: tick was added to the event, and the emissions were joined to that
 pub record Given (event given : ℕ) : Type 0 where
   pub adds : (j : ℕ) → has given j ≡ (has event j || eqb j 0)
 
@@ -44,25 +39,26 @@ pub record Joined (given emits next : ℕ) : Type 0 where
 module _ {event given : ℕ} (g : Given event given) where
   -- "tick, the event's inputs"
   given-is : (s : SignalNo) → signalsIn given s ≡ (only tick s || signalsIn event s)
-  given-is s = g .adds (ofSignal s) ∙ or-swap (has event (ofSignal s)) (eqb (ofSignal s) 0)
+  given-is s = g .adds (signalBit s) ∙ or-comm (signalsIn event s) (eqb (signalBit s) 0)
 
   pub reached-first : {rows : List ℕ} {state : ℕ} (p : Settling rows state event) → Reached p given 0
   unfolding rounds
   reached-first p = record { within = omega arith; is = given-is }
 
-  module _ {rows : List ℕ} {state e next : ℕ} {r : Reaction} (reacts : Reacted rows e state r)
-      (j : Joined given (r .emits) next) where
+  module _ {rows : List ℕ} {state e next : ℕ} {r : Yield} (reacts : Reacted rows e state r)
+      (j : Joined given (whole (r .emits)) next) where
     -- one round: "and the emissions"
-    renewed-is : (a : HaltNo) (t : Stmt) → Holds rows root a t → (s : SignalNo) → signalsIn next s ≡ renewed (signalsIn event) (has state) t (signalsIn e) s
-    renewed-is a t h s = rw (j .joins (ofSignal s), given-is s, reacts .means a t h .emits s)
+    renewed-is : (a : HaltNo) (t : Stmt) → Holds rows root a t → (s : SignalNo)
+        → signalsIn next s ≡ renewed (signalsIn event) (has state) t (signalsIn e) s
+    renewed-is a t h s = rw (j .joins (signalBit s), given-is s, reacts .means a t h .emits s)
 
     -- nothing that the program asks for has changed: the renewed E agrees
-    pub agrees-here : {w : ℕ} {b : Bool} → Tested rows root w → SameAt w next e b → b ≡ true → AgreedAt rows state event r
+    pub agrees-here : {w : ℕ} {b : Bool} → Tested rows root w → SameAt width w next e b → b ≡ true → AgreedAt rows state event r
     agrees-here c k same = record { agreed = agreed }
       where
         agreed : (a : HaltNo) (t : Stmt) → Holds rows root a t → Agreed t state event r
         agreed a t h =
-            let alike = alike-words k same t (c .tested a t h) in
+            let alike = alike-sets k same t (c .tested a t h) in
             let reaction : react (signalsIn next) (has state) t ≡ react (signalsIn e) (has state) t =
             same-react (signalsIn next) (signalsIn e) (has state) t alike in
             record {

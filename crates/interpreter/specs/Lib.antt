@@ -1,4 +1,4 @@
-pub mod Tested
 pub mod Interpret
+pub mod Tested
 pub mod Settle
-pub mod Many
+pub mod Program

@@ -1,13 +1,13 @@
+-- Not to be believed: what the code keeps to; the proofs check it.
 -- Which signals a program asks for. What a reaction does depends on E at these alone, so a round that changes none of them is the last.
 use mathlib.Core.Path.{_≡_}
-use mathlib.Core.Bool.{Bool, true, false, _||_}
+use mathlib.Core.Bool.{true, false, _||_}
 use mathlib.Core.List.{List}
 use Prim.Native.Nat.{ℕ, _<_}
 use Rattle.number.specs.declared.HaltNo.{HaltNo}
 use Rattle.number.specs.declared.SignalNo.{SignalNo}
 use Rattle.number.specs.declared.StmtNo.{StmtNo}
-use Rattle.number.specs.Counts.{ofSignal}
-use Rattle.bits.specs.Bits.{has, signalsIn}
+use Rattle.bits.specs.Bits.{signalBit, signalsIn, width}
 use Rattle.sheet.specs.declared.Unary.{Unary}
 use Rattle.sheet.specs.declared.Unary.the-variants.{Loop, Watching, Trap, Signal}
 use Rattle.sheet.specs.declared.Binary.{Binary}
@@ -35,15 +35,10 @@ asks (leaf l) s = false
 asks (one u p) s = asksOne u s || asks p s
 asks (two b p q) s = asksTwo b s || (asks p s || asks q s)
 
--- the word w has what of the signals X has a bit in a word
+-- the set w has what of the signals X has a bit
 pub record Covers (w : ℕ) (X : Signals) : Type 0 where
-  pub covers : (s : SignalNo) → X s ≡ true → ofSignal s < 64 → signalsIn w s ≡ true
+  pub covers : (s : SignalNo) → X s ≡ true → signalBit s < width → signalsIn w s ≡ true
 
--- the word has what the statement at row n asks for
+-- the set has what the statement at row n asks for
 pub record Tested (rows : List ℕ) (n : StmtNo) (w : ℕ) : Type 0 where
   pub tested : (a : HaltNo) (t : Stmt) → Holds rows n a t → Covers w (asks t)
-
--- whether two words are the same at what is in w; a word has nothing past 63
-pub record SameAt (w a b : ℕ) (r : Bool) : Type 0 where
-  pub same : r ≡ true → (j : ℕ) → (j < 64 → has w j ≡ true) → has a j ≡ has b j
-  pub differ : r ≡ false → a ≡ b → ⊥

@@ -1,108 +1,109 @@
-// The reaction of a sheet by the rules. E is made anew of tick, the inputs and the emissions until nothing changes that the sheet asks for; the netlist is not run.
-use compiler::Compiled;
-use number::Fault;
-use number::Refusal;
+// The reactions of a sheet by the rules. E is made anew of tick, the inputs and the emissions until nothing changes that the sheet asks for; the netlist is not run.
+use bits::Bits;
 use number::SignalNo;
 use number::StmtNo;
-use rules::Reaction;
+use rules::Yield;
 use sheet::Binary;
 use sheet::Counts;
 use sheet::Head;
 use sheet::Unary;
-ghost use mathlib.Core.Path.{_≡_};
-ghost use Rattle.number.specs.Refusals.{fault};
+use verdicts::Course;
+use verdicts::Reaction;
+use verdicts::Stop;
+ghost use Rattle.bits.specs.Bits.{whole};
 ghost use Rattle.sheet.specs.Read.{only};
 ghost use Rattle.rules.specs.Words.{Runnable, root};
-ghost use Rattle.interpreter.specs.Tested.{asksOne, asksTwo, Covers, Tested, SameAt};
-ghost use Rattle.compiler.specs.Compile.{Lent};
+ghost use Rattle.interpreter.specs.Tested.{asksOne, asksTwo, Covers, Tested};
 ghost use Rattle.interpreter.specs.Settle.{Settling, AgreedAt};
-ghost use Rattle.interpreter.specs.Interpret.{Interprets, Ready, ReactsReady};
-ghost use Rattle.interpreter.specs.Many.{Runs, RanRows};
+ghost use Rattle.interpreter.specs.Program.{Prepared, Prepares, MayRun, RanRows, ProgramRuns, ProgramReacts};
 
-// The refusal and the state handed in; or the counts, the emissions and the next state.
-pub enum Interpreted {
-    Refused(Fault, u64),
-    Reacted(Counts, u16, u64, u64),
+// A sheet that was compiled, made ready once for all events: its counts, how many cells it has, and the signals that it asks for. Its rows and its static sets
+// stand beside it, in the columns that it was compiled into.
+pub struct Program {
+    pub counts: Counts,
+    pub cells: u16,
+    pub asks: Bits,
 }
 
-// Tick, in every set of present signals.
-const TICK: u32 = 0;
-
-// Whether a and b are the same at what is in w.
-fn same_at(w: u64, a: u64, b: u64) -> bool
-    ensures { λ r. ⌜ SameAt w a b r ⌝ }
+// The signal x, if it has a bit.
+fn asked(x: SignalNo) -> Bits
+    ensures { λ r. ⌜ Covers (whole r) (only x) ⌝ }
 {
-    a & w == b & w
-}
-
-// The signal x, if it has a bit in a word.
-fn asked(x: SignalNo) -> u64
-    ensures { λ r. ⌜ Covers r (only x) ⌝ }
-{
-    let k = x.number() as u32;
-    if 64 <= k {
-        return bits::EMPTY;
+    let k = bits::signal_bit(x);
+    if bits::WIDTH <= k {
+        return Bits::empty();
     }
-    bits::add(bits::EMPTY, k)
+    Bits::empty().add(k)
 }
 
-fn asked_by_one(u: Unary) -> u64
-    ensures { λ r. ⌜ Covers r (asksOne u) ⌝ }
+fn asked_by_one(u: Unary) -> Bits
+    ensures { λ r. ⌜ Covers (whole r) (asksOne u) ⌝ }
 {
     match u {
-        Unary::Loop => bits::EMPTY,
+        Unary::Loop => Bits::empty(),
         Unary::Watching(s) => asked(s),
-        Unary::Trap => bits::EMPTY,
-        Unary::Signal(_) => bits::EMPTY,
+        Unary::Trap => Bits::empty(),
+        Unary::Signal(_) => Bits::empty(),
     }
 }
 
-fn asked_by_two(b: Binary) -> u64
-    ensures { λ r. ⌜ Covers r (asksTwo b) ⌝ }
+fn asked_by_two(b: Binary) -> Bits
+    ensures { λ r. ⌜ Covers (whole r) (asksTwo b) ⌝ }
 {
     match b {
-        Binary::Sequence => bits::EMPTY,
+        Binary::Sequence => Bits::empty(),
         Binary::Present(s) => asked(s),
-        Binary::Parallel => bits::EMPTY,
+        Binary::Parallel => Bits::empty(),
     }
 }
 
 // The signals that statement n asks for.
-fn tested(rows: &[u64], n: StmtNo) -> u64
+fn tested(rows: &[u64], n: StmtNo) -> Bits
     requires { ⌜ Runnable (now rows) n ⌝ }
-    ensures { λ r. ⌜ Tested (now (rows .entry)) n r ⌝ }
+    ensures { λ r. ⌜ Tested (now (rows .entry)) n (whole r) ⌝ }
 {
     let row = sheet::row_at(rows, n);
     let head = row.head;
     match head {
-        Head::Zero(_) => bits::EMPTY,
+        Head::Zero(_) => Bits::empty(),
         Head::One(u) => {
             let p = tested(rows, sheet::first_part(n));
-            bits::join(asked_by_one(u), p)
+            asked_by_one(u).join(p)
         }
         Head::Two(b) => {
-            let first = sheet::first_part(n);
-            let p = tested(rows, first);
-            let left = sheet::row_at(rows, first);
-            let q = tested(rows, left.end);
-            bits::join(asked_by_two(b), bits::join(p, q))
+            let p = tested(rows, sheet::first_part(n));
+            let q = tested(rows, sheet::second_part(rows, n));
+            asked_by_two(b).join(p.join(q))
         }
     }
 }
 
-// The reaction under the one E that agrees with the rules. `asks` has the signals that the sheet asks for: where a round changes none of them, another would do
-// the same. Emissions of an earlier round are dropped: keeping them could stop at a set that does not agree.
-pub fn agreed(rows: &[u64], asks: u64, state: u64, event: u64) -> Reaction
-    requires { ⌜ Settling (now rows) state event × Tested (now rows) root asks ⌝ }
-    ensures { λ r. ⌜ AgreedAt (now (rows .entry)) state event r ⌝ }
+// What was compiled into the rows, made ready.
+pub fn prepare(rows: &[u64], counts: Counts, cells: u16) -> Program
+    requires { ⌜ Runnable (now rows) root ⌝ }
+    ensures { λ r. ⌜ Prepares (now (rows .entry)) counts cells r ⌝ }
 {
-    let given = bits::add(event, TICK);
+    Program {
+        counts,
+        cells,
+        asks: tested(rows, StmtNo::new(0)),
+    }
+}
+
+// The yield of the root under the one E that agrees with the rules. `asks` has the signals that the sheet asks for: where a round changes none of them, another
+// would do the same. Emissions of an earlier round are dropped: keeping them could stop at a set that does not agree.
+fn agreed(rows: &[u64], asks: Bits, state: Bits, event: Bits) -> Yield
+    requires { ⌜ Settling (now rows) (whole state) (whole event) × Tested (now rows) root (whole asks) ⌝ }
+    ensures { λ r. ⌜ AgreedAt (now (rows .entry)) (whole state) (whole event) r ⌝ }
+{
+    let given = event.add(bits::TICK);
     let mut e = given;
     let mut round: u32 = 0;
     loop {
         let r = rules::react(rows, e, state);
-        let renewed = bits::join(given, r.emits);
-        if same_at(asks, renewed, e) {
+        let emits = r.emits;
+        let renewed = given.join(emits);
+        if asks.same_at(renewed, e) {
             return r;
         }
         e = renewed;
@@ -110,77 +111,81 @@ pub fn agreed(rows: &[u64], asks: u64, state: u64, event: u64) -> Reaction
     }
 }
 
-fn refused(refusal: Refusal, state: u64) -> Interpreted
-    ensures { λ r. ⌜ r ≡ Interpreted.Refused (fault refusal 0) state ⌝ }
-{
-    Interpreted::Refused(Fault { refusal, place: 0 }, state)
-}
-
-// One reaction of a sheet that was compiled: EVENT, then STATE, then the rules, in a run over this one event.
-pub fn react(
-    rows: &[u64],
-    sets: &[u64],
-    c: Counts,
-    cells: u16,
-    state: u64,
-    event: u64,
-) -> Interpreted
-    requires { ⌜ Ready c cells (now rows) (now sets) ⌝ }
-    ensures { λ r. ⌜ ReactsReady c cells (now (rows .entry)) (now (sets .entry)) state event r ⌝ }
-{
-    if !run::event_ok(c.inputs as u32, event) {
-        return refused(Refusal::Event, state);
-    }
-    if !rules::fits(rows, sets, state) {
-        return refused(Refusal::State, state);
-    }
-    let events = [event];
-    let mut emissions = [0u64; 1];
-    let mut states = [0u64; 1];
-    let next = moments(rows, state, &events, &mut emissions, &mut states);
-    Interpreted::Reacted(c, cells, emissions[0], next)
-}
-
-// A reaction to each event, each from the state after the one before. The emissions and the states go to the first places of the lent slices; the last state
+// A moment for each event, each from the state after the one before. The emissions and the states go to the first places of the lent slices; the last state
 // comes back.
 pub fn moments(
     rows: &[u64],
-    state: u64,
+    asks: Bits,
+    state: Bits,
     events: &[u64],
     emissions: &mut [u64],
     states: &mut [u64],
-) -> u64
-    requires { ⌜ Runs (now rows) state (now events) (now emissions) (now states) ⌝ }
-    ensures { λ r. ⌜ RanRows (now (rows .entry)) state (now (events .entry))
-        (now (emissions .entry)) (now (emissions .exit)) (now (states .entry)) (now (states .exit)) r ⌝ }
+) -> Bits
+    requires { ⌜ MayRun (now rows) (whole asks) (whole state) (now events) (now emissions) (now states) ⌝ }
+    ensures { λ r. ⌜ RanRows (now (rows .entry)) (whole state) (now (events .entry))
+        (now (emissions .entry)) (now (emissions .exit)) (now (states .entry)) (now (states .exit)) (whole r) ⌝ }
 {
-    let asks = tested(rows, StmtNo::new(0));
+    let n = bits::count(events);
     let mut last = state;
-    let mut j = 0;
-    while j < events.len() {
-        let r = agreed(rows, asks, last, events[j]);
-        emissions[j] = r.emits;
+    let mut j: usize = 0;
+    while j < n {
+        let r = agreed(rows, asks, last, Bits::read(events, j));
+        let shown = r.emits;
+        shown.write(emissions, j);
         last = rules::next_state(r);
-        states[j] = last;
+        last.write(states, j);
         j += 1;
     }
     last
 }
 
-// The reaction of a sheet, compiled into the lent columns.
-pub fn interpret(
-    s: &[u8],
-    state: u64,
-    event: u64,
-    rows: &mut [u64],
-    sets: &mut [u64],
-    cells: &mut [u64],
-) -> Interpreted
-    requires { ⌜ Lent (now rows) (now sets) (now cells) ⌝ }
-    ensures { λ r. ⌜ Interprets (now (s .entry)) state event r ⌝ }
+// The reactions of a program that was made ready: EVENT, STATE or BUFFER, or a moment for each event.
+pub fn react_many(
+    p: Program,
+    rows: &[u64],
+    statics: &[u64],
+    state: Bits,
+    events: &[u64],
+    emissions: &mut [u64],
+    states: &mut [u64],
+) -> Course
+    requires { ⌜ Prepared p (now rows) (now statics) ⌝ }
+    ensures { λ r. ⌜ ProgramRuns p (now (rows .entry)) (now (statics .entry))
+        (record { state = whole state; events = now (events .entry); signals = now (emissions .entry); states = now (states .entry) })
+        (record { course = r; signals = now (emissions .exit); states = now (states .exit) }) ⌝ }
 {
-    match compiler::compile(s, rows, sets, cells) {
-        Compiled::Refused(f) => Interpreted::Refused(f, state),
-        Compiled::Program(c, n) => react(rows, sets, c, n, state, event),
+    let counts = p.counts;
+    let asks = p.asks;
+    let needed = verdicts::needed(events);
+    let own = run::events_ok(counts.inputs as u32, events);
+    let fit = rules::fits(rows, statics, state);
+    let room = verdicts::has_room(needed, emissions.len(), states.len());
+    match verdicts::first_fault(own, fit, room, needed) {
+        Stop::By(f) => verdicts::with_state(verdicts::refusal(f), state),
+        Stop::Nothing => {
+            let last = moments(rows, asks, state, events, emissions, states);
+            verdicts::with_state(verdicts::acceptance(counts.statements, p.cells), last)
+        }
     }
+}
+
+// The reaction of a program that was made ready to one event: a run over it.
+pub fn react(p: Program, rows: &[u64], statics: &[u64], state: Bits, event: Bits) -> Reaction
+    requires { ⌜ Prepared p (now rows) (now statics) ⌝ }
+    ensures { λ r. ⌜ ProgramReacts p (now (rows .entry)) (now (statics .entry)) (whole state) (whole event) r ⌝ }
+{
+    let mut events = [0u64; bits::WORDS];
+    let mut emissions = [0u64; bits::WORDS];
+    let mut states = [0u64; bits::WORDS];
+    event.write(&mut events, 0);
+    let c = react_many(
+        p,
+        rows,
+        statics,
+        state,
+        &events,
+        &mut emissions,
+        &mut states,
+    );
+    verdicts::reaction_of(c, Bits::read(&emissions, 0))
 }

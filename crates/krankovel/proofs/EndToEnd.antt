@@ -1,29 +1,32 @@
 -- From a sheet's bytes to its file's bytes, over the entries' own answers.
 use mathlib.Core.Path.{_≡_, refl, sym, ap, _∙_}
-use mathlib.Core.Bool.{Bool, true, false, and-eq-true-iff}
+use mathlib.Core.Bool.{Bool, true, false}
 use mathlib.Core.List.{List}
-use Prim.Native.Nat.{ℕ, _≤_}
+use Prim.Native.Nat.{ℕ, _*_, _/_, _≤_}
 use native.Mathlib.Omega.{arith}
-use native.Mathlib.Nat.{zero-add}
 use lib.Dec.{leb}
 use lib.ListN.{length, take}
 use lib.Seq.{sets}
 use borrow.Author.Tests.{leb-true}
 use Rattle.number.specs.declared.Refusal.{Refusal}
 use Rattle.number.specs.declared.Refusal.the-variants.{Short, Number, Kind, Count, Scope, Emit, Exit, Extra, Instant, Twice, Room, Cycle, Event, State, Buffer, Cell}
+use Rattle.number.specs.declared.Refusal.the-variants.{Word, Name, Cover, Order, Line, States}
 use Rattle.number.specs.Number.{pick}
 use Rattle.number.specs.Refusals.{refusalNo}
+use Rattle.number.proofs.Bools.{and-right}
+use Rattle.bits.specs.Bits.{words, isWhole, setsIn, columnOf, bitsOf}
 use Rattle.bits.proofs.Laws.{empty}
+use Rattle.bits.proofs.None.{past-none}
+use Rattle.bits.proofs.Columns.{sets-length, column-length}
 use Rattle.sheet.specs.Read.{Sheet, SheetOutcome, sheet, faulty}
-use Rattle.gates.specs.Values.{registers}
-use Rattle.run.specs.Many.{lastState, each}
+use Rattle.cells.specs.Values.{registers}
+use Rattle.builder.specs.Netlist.{sheetFile}
+use Rattle.run.specs.Many.{lastState, each, eventsOk}
 use Rattle.run.specs.Words.{eventOk, stateOk}
-use Rattle.run.proofs.Words.{past-none}
 use Rattle.run.proofs.Going.{shown-each, states-each}
-use Rattle.run.proofs.Numbering.{laid-more}
-use Rattle.files.specs.File.{sheetFile, fileBytes}
+use Rattle.files.specs.File.{fileBytes}
 use Rattle.files.specs.Read.{netlist, readFile}
-use Rattle.files.proofs.OfSheets.{built-accepted}
+use Rattle.compiler.proofs.OfSheets.{built-accepted}
 use Rattle.netlists.specs.Check.{ChecksFile, accepted as in-order}
 use Rattle.netlists.proofs.Checking as checking
 use Rattle.compiler.specs.Check.{Checks, Accepted, accepted}
@@ -33,15 +36,17 @@ use Rattle.interpreter.proofs.Interpreting.{accepted-proper}
 use Rattle.verdicts.specs.declared.Answer.{Answer}
 use Rattle.verdicts.specs.declared.Listing.{Listing}
 use Rattle.verdicts.specs.declared.Course.{Course}
-use Rattle.verdicts.specs.Answers.{Verdict, passes, stops, verdict, answerOf, refusal, acceptance, bufferAfter, hasRoom}
-use Rattle.sheet_entries.specs.Sheets.{sheetVerdict, sheetAccepted, Checked, sheetFits, sheetEvent}
-use Rattle.netlist_entries.specs.Netlists.{netVerdict, netAccepted, NetChecked, netEvent, netState}
+use Rattle.verdicts.specs.Answers.{Verdict, passes, stops, verdict, answerOf, refusal, acceptance, bufferAfter}
+use Rattle.verdicts.specs.Runs.{Asked, Told, needed, hasRoom, stateAfter, Runs}
+use Rattle.verdicts.proofs.Running.{room-is}
+use Rattle.sheet_entries.specs.Sheets.{sheetVerdict, sheetAccepted, Checked, sheetFits, sheetEvents, sheetStep, ReactedMany}
+use Rattle.netlist_entries.specs.Netlists.{netVerdict, netAccepted, NetChecked, netEvents, netState, netStep, NetReactedMany}
 use Rattle.netlist_entries.specs.Files.{fileOf, writeVerdict, Filed}
 use Rattle.netlist_entries.specs.Cells.{listingOf, NetListed}
 use Rattle.compile_entries.specs.Compile.{sheetNet, Written, Listed}
 use Rattle.compile_entries.proofs.CompileEntries.{accepted-few}
-use Rattle.many_entries.specs.Many.{stateAfter, RanMany, sheetStep, ReactedMany, netStep, NetReactedMany}
-use Rattle.krankovel.specs.EndToEnd.{SameRun, withoutStatements, EndToEnd}
+use Rattle.netlist_entries.proofs.CellEntries.{laid-front}
+use Rattle.krankovel.specs.EndToEnd.{SameRun, asking, withoutStatements, EndToEnd}
 use Rattle.krankovel.proofs.Together.{same-run, same-states}
 
 -- no refusal has number 0
@@ -62,16 +67,18 @@ refused-no Event e = omega (arith, e)
 refused-no State e = omega (arith, e)
 refused-no Buffer e = omega (arith, e)
 refused-no Cell e = omega (arith, e)
+refused-no Word e = omega (arith, e)
+refused-no Name e = omega (arith, e)
+refused-no Cover e = omega (arith, e)
+refused-no Order e = omega (arith, e)
+refused-no Line e = omega (arith, e)
+refused-no States e = omega (arith, e)
 
 -- `compile` accepted: the sheet is accepted, and the buffer begins with its file
 record Compiled (s buffer : List ℕ) : Type 0 where
   read : Sheet
   accepts : Accepted s read
   begins : take (length (fileBytes (sheetFile read))) buffer ≡ fileBytes (sheetFile read)
-
--- what was laid at the front of a slice with room
-laid-front : (l xs : List ℕ) → length xs ≤ length l → take (length xs) (sets l 0 xs) ≡ xs
-laid-front l xs room = rw (zero-add (length xs)) at (laid-more l xs 0 (omega arith))
 
 compiled : (s : List ℕ) {a : Answer} {buffer buffer′ : List ℕ} → Written s a buffer buffer′ → a .number ≡ 0 → Compiled s buffer′
 unfolding sheetNet fileOf netVerdict writeVerdict verdict answerOf bufferAfter pick
@@ -92,11 +99,10 @@ compiled s {a} {buffer} {buffer′} did is-0 = go (did .outcome) (did .checks) (
     go (sheet w) ok filed = room-or-not w ok (leb (length (fileBytes (sheetFile w))) (length buffer)) refl filed
 
 -- an entry for each event, at the front of a slice with room for them
-front : (events l xs : List ℕ) {l′ : List ℕ} → l′ ≡ sets l 0 xs → length xs ≡ length events → leb (length events) (length l) ≡ true
-    → take (length events) l′ ≡ xs
-front events l xs left as-many room =
-    let fit : length events ≤ length l = leb-true (length events) (length l) room in
-    rw (left, sym as-many) (laid-front l xs (omega (arith, as-many)))
+front : (n : ℕ) (l xs : List ℕ) {l′ : List ℕ} → l′ ≡ sets l 0 (columnOf xs) → length xs * words ≡ n → n ≤ length l → take n l′ ≡ columnOf xs
+front n l xs left as-many room =
+    let long : length (columnOf xs) ≡ n = column-length xs ∙ as-many in
+    rw left (ap (λ (k : ℕ). take k (sets l 0 (columnOf xs))) (sym long) ∙ laid-front l (columnOf xs) (omega (arith, long)))
 
 module _ {s : List ℕ} {w : Sheet} (ok : Accepted s w) where
   abbrev file : List ℕ
@@ -135,42 +141,53 @@ module _ {s : List ℕ} {w : Sheet} (ok : Accepted s w) where
   fresh-passes : (k : ℕ) → stateOk k 0 ≡ true
   fresh-passes k = past-none k 0 (λ j h. empty j)
 
-  module _ (events emissions states outputs netStates : List ℕ) (room : hasRoom events emissions states ≡ true)
-      (room′ : hasRoom events outputs netStates ≡ true) {r r′ : Course} {emissions′ states′ outputs′ netStates′ : List ℕ} where
+  module _ (events emissions states outputs netStates : List ℕ) {t t′ : Told} where
     -- every event passes, or none is taken
-    by-events : (e : Bool) → each (eventOk (w .inputs)) events ≡ e
-        → RanMany (sheetStep (sheet w)) (sheetAccepted (sheet w)) (verdict passes e true true (length events)) 0 events emissions states r emissions′ states′
-        → RanMany (netStep (netlist (sheetFile w))) (netAccepted (netlist (sheetFile w))) (verdict passes e true true (length events)) 0 events outputs netStates r′
-        outputs′ netStates′ → SameRun (w .inputs) (w .outputs) events r r′ emissions′ states′ outputs′ netStates′
+    by-events : (e : Bool) → eventsOk (w .inputs) events ≡ e → hasRoom (asking events emissions states) ≡ true → hasRoom (asking events outputs netStates) ≡ true
+        → Runs (sheetStep (sheet w)) (sheetAccepted (sheet w)) (verdict passes e true true (needed (asking events emissions states))) (asking events emissions states) t
+        → Runs (netStep (netlist (sheetFile w))) (netAccepted (netlist (sheetFile w))) (verdict passes e true true (needed (asking events emissions states))) (asking events outputs netStates) t′
+        → SameRun (w .inputs) (w .outputs) (needed (asking events emissions states)) t t′
     unfolding verdict pick answerOf stateAfter bufferAfter sheetAccepted netAccepted
-    by-events false own x y =
-        let refused : r .number ≡ refusalNo Event = ap (λ (c : Course). c .number) (x .answer) in
+    by-events false own room room′ x y =
+        let refused : t .course .number ≡ refusalNo Event = ap (λ (c : Course). c .number) (x .answer) in
         record {
           number = refused ∙ sym (ap (λ (c : Course). c .number) (y .answer));
           state = ap (λ (c : Course). c .state) (x .answer) ∙ sym (ap (λ (c : Course). c .state) (y .answer));
           clocks = λ is-0. absurd (omega (arith, refused, is-0));
         }
-    by-events true own x y =
-        let same = same-run ok own (fresh-fits (w .root)) (x .steps refl) (y .steps refl) in
-        let long = and-eq-true-iff (leb (length events) (length emissions)) (leb (length events) (length states)) .0 room in
-        let long′ = and-eq-true-iff (leb (length events) (length outputs)) (leb (length events) (length netStates)) .0 room′ in
-        let shown = front events emissions (x .shown) (x .signals-left) (shown-each (x .steps refl)) (long .0) in
-        let passed = front events states (x .passed) (x .states-left) (states-each (x .steps refl)) (long .1) in
-        let shown′ = front events outputs (y .shown) (y .signals-left) (shown-each (y .steps refl)) (long′ .0) in
-        let passed′ = front events netStates (y .passed) (y .states-left) (states-each (y .steps refl)) (long′ .1) in
+    by-events true own room room′ x y =
+        let each-own = and-right (isWhole events) (each (eventOk (w .inputs)) (setsIn events)) own in
+        let same = same-run ok each-own (fresh-fits (w .root)) (x .steps refl) (y .steps refl) in
+        let long = room-is (asking events emissions states) room in
+        let long′ = room-is (asking events outputs netStates) room′ in
+        let many : length (setsIn events) ≡ length events / words = sets-length events in
+        let as-many : (l : List ℕ) → length l ≡ length (setsIn events) → length l * words ≡ length events / words * words =
+        λ l e. ap (λ (k : ℕ). k * words) (e ∙ many) in
         record {
           number = ap (λ (c : Course). c .number) (x .answer) ∙ sym (ap (λ (c : Course). c .number) (y .answer));
-          state = ap (λ (c : Course). c .state) (x .answer) ∙ ap (lastState 0) (same-states same) ∙ sym (ap (λ (c : Course). c .state) (y .answer));
-          clocks = λ is-0. rw (shown, passed, shown′, passed′) same;
+          state = ap (λ (c : Course). c .state) (x .answer) ∙ ap (λ (l : List ℕ). bitsOf (lastState 0 l)) (same-states same)
+              ∙ sym (ap (λ (c : Course). c .state) (y .answer));
+          clocks = λ is-0. record {
+            emitted = x .shown;
+            passed = x .passed;
+            shown = y .shown;
+            netPassed = y .passed;
+            emissions-hold = front _ emissions (x .shown) (x .signals-left) (as-many (x .shown) (shown-each (x .steps refl))) (long .signals-long);
+            states-hold = front _ states (x .passed) (x .states-left) (as-many (x .passed) (states-each (x .steps refl))) (long .states-long);
+            outputs-hold = front _ outputs (y .shown) (y .signals-left) (as-many (y .shown) (shown-each (y .steps refl))) (long′ .signals-long);
+            net-states-hold = front _ netStates (y .passed) (y .states-left) (as-many (y .passed) (states-each (y .steps refl))) (long′ .states-long);
+            same = same;
+          };
         }
 
-    same-runs : ReactedMany s 0 events emissions states r emissions′ states′ → NetReactedMany (readFile file) 0 events outputs netStates r′ outputs′ netStates′
-        → SameRun (w .inputs) (w .outputs) events r r′ emissions′ states′ outputs′ netStates′
-    unfolding sheetVerdict sheetEvent sheetFits netVerdict netEvent netState
-    same-runs x y =
+    same-runs : hasRoom (asking events emissions states) ≡ true → hasRoom (asking events outputs netStates) ≡ true
+        → ReactedMany s (asking events emissions states) t → NetReactedMany (readFile file) (asking events outputs netStates) t′
+        → SameRun (w .inputs) (w .outputs) (needed (asking events emissions states)) t t′
+    unfolding sheetVerdict sheetEvents sheetFits netVerdict netEvents netState
+    same-runs room room′ x y =
         let run = rw (one-check s (x .checks) ok) at (x .answer) in
         let run′ = rw (checking.one-check (y .checks) reads) at (y .answer) in
-        by-events (each (eventOk (w .inputs)) events) refl (rw (fresh-fits (w .root), room) at run)
+        by-events (eventsOk (w .inputs) events) refl room room′ (rw (fresh-fits (w .root), room) at run)
         (rw (fresh-passes (registers (sheetFile w .cells)), room′) at run′)
 
 -- The theorem.
@@ -184,5 +201,5 @@ end-to-end s did accepts =
       begins = c .begins;
       accepted = same-counts (c .accepts);
       cells = same-cells (c .accepts);
-      runs = λ events emissions states outputs netStates room room′ r r′ e′ s′ o′ n′. same-runs (c .accepts) events emissions states outputs netStates room room′;
+      runs = λ events emissions states outputs netStates room room′ t t′ x y. same-runs (c .accepts) events emissions states outputs netStates room room′ x y;
     }

@@ -14,22 +14,23 @@ use Rattle.sheet.specs.Stmt.{Stmt}
 use Rattle.sheet.specs.Read.{Sheet, sheet, only}
 use Rattle.rules.specs.Rules.{Signals}
 use Rattle.rules.specs.States.{State, react, nextState, Event, tick, fits}
-use Rattle.gates.specs.Cells.{signalCell}
-use Rattle.gates.specs.Values.{nextOf}
-use Rattle.builder.specs.Netlist.{sheetNetlist}
+use Rattle.cells.specs.Cells.{signalCell}
+use Rattle.cells.specs.Values.{nextOf}
+use Rattle.builder.specs.Netlist.{sheetNetlist, sheetFile}
 use Rattle.run.specs.Words.{isOutput, eventOk}
 use Rattle.run.specs.React.{Clock}
 use Rattle.compiler.specs.Check.{Accepted}
-use Rattle.agreement.specs.Demand.{Reaction}
+use Rattle.agreement.specs.Demand.{WholeReaction}
 use Rattle.agreement.proofs.Theorem.{reaction}
-use Rattle.agreement.proofs.InWords.{left-on, right-on, same-where}
+use Rattle.number.proofs.Bools.{and-left, and-right}
+use Rattle.agreement.proofs.InWords.{same-where}
 use Rattle.interpreter.specs.Interpret.{Moment}
-use Rattle.interpreter.proofs.Ready.{event-of}
+use Rattle.interpreter.proofs.Settling.{event-of}
 use Rattle.interpreter.proofs.Alone.{fits-again}
 use Rattle.run.specs.Many.{Steps, ended, goes, each}
-use Rattle.files.specs.File.{sheetFile}
 use Rattle.files.specs.Read.{netlist}
-use Rattle.many_entries.specs.Many.{sheetStep, netStep}
+use Rattle.sheet_entries.specs.Sheets.{sheetStep}
+use Rattle.netlist_entries.specs.Netlists.{netStep}
 use Rattle.krankovel.specs.EndToEnd.{SameClock, SameClocks, none, more}
 
 module _ {bytes : List ℕ} {w : Sheet} (accepted : Accepted bytes w) (state event : ℕ) (own : eventOk (w .inputs) event ≡ true)
@@ -52,20 +53,20 @@ module _ {bytes : List ℕ} {w : Sheet} (accepted : Accepted bytes w) (state eve
   is-event : Event I J
   is-event = event-of I event own
 
-  one : Reaction w J S
+  one : WholeReaction w J S
   one = reaction accepted J S fit is-event
 
   -- an output is neither tick nor an input, so it is present where it is emitted
   emitted : (E : Signals) (s : SignalNo) → isOutput I O s ≡ true → ((only tick s || J s) || (react E S t) .emits s) ≡ (react E S t) .emits s
   emitted E s e =
-      let past : I < ofSignal s = ltb-true I (ofSignal s) (left-on (ltb I (ofSignal s)) (leb (ofSignal s) (I + O)) e) in
+      let past : I < ofSignal s = ltb-true I (ofSignal s) (and-left (ltb I (ofSignal s)) (leb (ofSignal s) (I + O)) e) in
       let no-tick : only tick s ≡ false = ne-eqb (ofSignal s) 0 (λ z. omega arith) in
       rw (no-tick, is-event .own s past) refl
 
   -- an output is one of the signals that the netlist shows
   shown : (s : SignalNo) → isOutput I O s ≡ true → one .values (signalCell s) ≡ one .present s
   shown s e =
-      let most = leb-true (ofSignal s) (I + O) (right-on (ltb I (ofSignal s)) (leb (ofSignal s) (I + O)) e) in
+      let most = leb-true (ofSignal s) (I + O) (and-right (ltb I (ofSignal s)) (leb (ofSignal s) (I + O)) e) in
       one .shown s (omega arith)
 
   module _ {emissions next : ℕ} (m : Moment t state event emissions next) where

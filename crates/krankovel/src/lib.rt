@@ -1,18 +1,19 @@
 // The public entries. Any bytes, any words, any lent buffer: each answers, or refuses with the paper's number and place.
+pub use bits::Bits;
 pub use compile_entries::compile;
 pub use compile_entries::compile_cells;
-pub use many_entries::react_cells_many;
-pub use many_entries::react_file_many;
-pub use many_entries::react_many;
 pub use netlist_entries::check_cells;
 pub use netlist_entries::check_file;
 pub use netlist_entries::react_cells;
+pub use netlist_entries::react_cells_many;
 pub use netlist_entries::react_file;
+pub use netlist_entries::react_file_many;
 pub use netlist_entries::read_file;
 pub use netlist_entries::write_cells;
 pub use sheet_entries::check;
 pub use sheet_entries::fits;
 pub use sheet_entries::react;
+pub use sheet_entries::react_many;
 pub use sheet_entries::read;
 pub use sheet_entries::rest;
 pub use verdicts::Answer;

@@ -4,6 +4,7 @@ use mathlib.Core.Bool.{true, false}
 use mathlib.Core.List.{List, [], map}
 use Prim.Native.Nat.{ℕ, _+_, _≤_, _<_}
 use native.Mathlib.Omega.{arith}
+use native.Mathlib.Nat.{zero-add}
 use native.Mathlib.Numerals.{add-one}
 use lib.Dec.{leb}
 use lib.ListN.{length, getD, set, take, drop, length-map, length-set, drop-of-length-le}
@@ -13,25 +14,24 @@ use Rattle.number.specs.declared.Fault.{Fault}
 use Rattle.number.specs.declared.Refusal.the-variants.{Buffer}
 use Rattle.number.specs.Number.{pick}
 use Rattle.number.specs.Refusals.{fault}
-use Rattle.gates.specs.Store.{word}
-use Rattle.builder.proofs.Format.{stored-whole}
-use Rattle.order.specs.Paths.{cellsOf}
+use Rattle.limits.specs.Limits.{maxCells, maxSignals}
+use Rattle.cells.specs.Words.{word, cellsOf}
+use Rattle.cells.specs.Netlist.{Netlist, netlistOf}
+use Rattle.run.proofs.Numbering.{laid-more}
 use Rattle.files.specs.declared.FileRead.the-variants.{Read}
 use Rattle.files.specs.declared.Header.{Header}
-use Rattle.files.specs.File.{Netlist}
 use Rattle.files.specs.Read.{FileOutcome, netlist, faulty, readFile}
 use Rattle.files.specs.Answer.{headerOf, FileLaid}
-use Rattle.netlists.specs.Words.{netlistOf}
-use Rattle.netlists.specs.Check.{Checks}
+use Rattle.netlists.specs.Check.{NetChecks}
 use Rattle.netlists.specs.Checked.{DidCheckFile}
-use Rattle.netlists.proofs.Running.{file, sound, count, file-cells}
+use Rattle.netlists.proofs.Running.{file, sound, count, file-cells, file-is}
 use Rattle.verdicts.specs.declared.Answer.{Answer}
 use Rattle.verdicts.specs.declared.Listing.{Listing}
 use Rattle.verdicts.specs.Answers.{verdict, refusal, acceptance, withSignals, bufferAfter}
 use Rattle.netlist_entries.specs.Netlists.{netVerdict, netAccepted}
 use Rattle.netlist_entries.specs.Files.{writeVerdict}
 use Rattle.netlist_entries.specs.Cells.{wordsOf, listingOf, Handed, NetListed}
-use Rattle.netlist_entries.proofs.NetEntries.{checks, net-is}
+use Rattle.netlist_entries.proofs.NetEntries.{checks}
 
 -- The loop that copies: what is left to copy completes the slice.
 module _ (cells words₀ : List ℕ) where
@@ -75,35 +75,40 @@ module _ {f : Fault} {words : List ℕ} where
   unfolding writeVerdict verdict netVerdict listingOf bufferAfter
   handed-refused = record { answer = refl; left = refl }
 
-  pub net-listed-refused : {found : FileOutcome} → Checks found (faulty f) → NetListed found (withSignals (refusal f) 0 0) words words
+  pub net-listed-refused : {found : FileOutcome} → NetChecks found (faulty f) → NetListed found (withSignals (refusal f) 0 0) words words
   net-listed-refused was = record { outcome = faulty f; checks = was; handed = handed-refused }
+
+-- what was laid at the front of a slice with room
+pub laid-front : (l xs : List ℕ) → length xs ≤ length l → take (length xs) (sets l 0 xs) ≡ xs
+laid-front l xs room = rw (zero-add (length xs)) at (laid-more l xs 0 (omega arith))
 
 -- a file that was read: its column has the words of its cells
 module _ (s : List ℕ) {h : Header} {column column′ order : List ℕ} (d : DidCheckFile (readFile s) (Read h) column column′ order)
-    (long : 1024 ≤ length column) (places : 1024 ≤ length order) where
+    (long : maxCells ≤ length column) where
   abbrev net : Netlist
-  net = file s d long places .found-as .net
+  net = file s d long .found-as .net
 
   counted-as : h .cells ≡ length (net .cells)
-  counted-as = count s d long places
+  counted-as = count s d long
 
   stored : take (h .cells) column′ ≡ map word (net .cells)
   unfolding FileLaid
   stored =
-      let laid : column′ ≡ sets column 0 (map word (net .cells)) = rw (file s d long places .found-as .is) at (d .laid) in
+      let laid : column′ ≡ sets column 0 (map word (net .cells)) = rw (file s d long .found-as .is) at (d .laid) in
       ap (λ (k : ℕ). take k column′) counted-as ∙ ap (take (length (net .cells))) laid
-      ∙ stored-whole (net .cells) column (omega (arith, sound s d long places .few))
+      ∙ ap (λ (k : ℕ). take k (sets column 0 (map word (net .cells)))) (sym (length-map (net .cells) word))
+      ∙ laid-front column (map word (net .cells)) (omega (arith, length-map (net .cells) word, sound s d long .few))
 
   pub file-packed : map word (cellsOf (take (h .cells) column′)) ≡ take (h .cells) column′
-  file-packed = ap (map word) (file-cells s d long places) ∙ sym stored
+  file-packed = ap (map word) (file-cells s d long) ∙ sym stored
 
   pub file-whole : h .cells ≡ length (take (h .cells) column′)
   file-whole = counted-as ∙ sym (ap length stored ∙ length-map (net .cells) word)
 
-  pub few-signals : 1 + h .inputs + h .outputs ≤ 64
+  pub few-signals : 1 + h .inputs + h .outputs ≤ maxSignals
   few-signals =
-      let header : h ≡ headerOf net = file s d long places .found-as .header in
-      omega (arith, sound s d long places .signals, ap (λ (k : Header). k .inputs) header, ap (λ (k : Header). k .outputs) header)
+      let header : h ≡ headerOf net = file s d long .found-as .header in
+      omega (arith, sound s d long .signals, ap (λ (k : Header). k .inputs) header, ap (λ (k : Header). k .outputs) header)
 
   pub listed-file : {r : Listing} {words words′ : List ℕ}
       → Handed (netlist (netlistOf (h .inputs) (h .outputs) (take (h .cells) column′))) (acceptance 0 (length (take (h .cells) column′))) r words words′
@@ -111,4 +116,4 @@ module _ (s : List ℕ) {h : Header} {column column′ order : List ℕ} (d : Di
   unfolding netAccepted
   listed-file handed =
       let answer : acceptance 0 (length (take (h .cells) column′)) ≡ netAccepted (netlist net) = ap (acceptance 0) (sym file-whole ∙ counted-as) in
-      record { outcome = netlist net; checks = checks (file s d long places); handed = rw (net-is s d long places, answer) at handed }
+      record { outcome = netlist net; checks = checks (file s d long); handed = rw (file-is s d long, answer) at handed }

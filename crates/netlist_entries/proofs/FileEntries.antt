@@ -10,14 +10,15 @@ use Rattle.number.specs.declared.Fault.{Fault}
 use Rattle.number.specs.Number.{pick}
 use Rattle.files.specs.declared.FileRead.the-variants.{Read}
 use Rattle.files.specs.declared.Header.{Header}
-use Rattle.files.specs.File.{Netlist, fileBytes}
+use Rattle.cells.specs.Netlist.{Netlist, netlistOf}
+use Rattle.files.specs.File.{fileBytes}
 use Rattle.files.specs.Read.{FileOutcome, netlist, faulty}
-use Rattle.netlists.specs.Words.{netlistOf, judgeCells}
-use Rattle.netlists.specs.Check.{Checks}
+use Rattle.netlists.specs.Words.{judgeCells}
+use Rattle.netlists.specs.Check.{NetChecks}
 use Rattle.netlists.specs.Checked.{DidCheck}
-use Rattle.writer.specs.declared.FileWritten.{FileWritten}
-use Rattle.writer.specs.declared.FileWritten.the-variants.{Length, Refused}
-use Rattle.writer.specs.Write.{fileWritten, bufferAfter as writerLeaves, DidWrite}
+use Rattle.netlists.specs.declared.writer.FileWritten.{FileWritten}
+use Rattle.netlists.specs.declared.writer.FileWritten.the-variants.{Length, Refused}
+use Rattle.netlists.specs.Write.{fileWritten, bufferWritten, DidWrite}
 use Rattle.verdicts.specs.declared.Answer.{Answer}
 use Rattle.verdicts.specs.Answers.{verdict, answerOf, refusal, acceptance, bufferAfter}
 use Rattle.netlist_entries.specs.Netlists.{netVerdict}
@@ -30,7 +31,7 @@ module _ {f : Fault} {buffer : List ℕ} where
   unfolding writeVerdict verdict netVerdict answerOf bufferAfter
   filed-refused = record { answer = refl; left = refl }
 
-  pub net-written-refused : {found : FileOutcome} → Checks found (faulty f) → NetWritten found (refusal f) buffer buffer
+  pub net-written-refused : {found : FileOutcome} → NetChecks found (faulty f) → NetWritten found (refusal f) buffer buffer
   net-written-refused was = record { outcome = faulty f; checks = was; filed = filed-refused }
 
 -- of cells as words that were accepted
@@ -48,7 +49,7 @@ writtenAs answer (Length n) = answer
 -- BUFFER, or the file: the writer asks whether the buffer is too short, the entry whether the file has room
 short-or-not : (w : Netlist) {answer : Answer} {r : FileWritten} {buffer buffer′ : List ℕ} → DidWrite w r buffer buffer′ → (b : Bool)
     → ltb (length buffer) (length (fileBytes w)) ≡ b → {a : Answer} → a ≡ writtenAs answer r → Filed (netlist w) answer a buffer buffer′
-unfolding fileWritten writerLeaves pick writeVerdict verdict netVerdict fileOf answerOf bufferAfter
+unfolding fileWritten bufferWritten pick writeVerdict verdict netVerdict fileOf answerOf bufferAfter
 short-or-not w {buffer = buffer} did true e is =
     let needed : ℕ = length (fileBytes w) in
     let given : ℕ = length buffer in

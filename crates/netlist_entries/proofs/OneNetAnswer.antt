@@ -1,23 +1,28 @@
 -- Nothing else satisfies the description of an entry that takes a netlist: two answers to the same arguments are equal, and so is what was lent after them.
 use mathlib.Core.Path.{_≡_, refl, sym, _∙_}
-use mathlib.Core.Bool.{Bool, true, false}
+use mathlib.Core.Bool.{true}
 use mathlib.Core.List.{List}
 use Prim.Native.Nat.{ℕ}
-use Rattle.number.specs.Number.{pick}
-use Rattle.run.specs.declared.Reaction.the-variants.{Reacted as RunReacted}
-use Rattle.run.specs.React.{reacted}
-use Rattle.run.proofs.One.{one-answer}
-use Rattle.files.specs.File.{Netlist}
+use native.Mathlib.Omega.{arith}
+use Rattle.number.proofs.Bools.{and-right}
+use Rattle.bits.specs.Bits.{isWhole, setsIn}
+use Rattle.cells.specs.Netlist.{Netlist}
+use Rattle.run.specs.Words.{eventOk}
+use Rattle.run.specs.Many.{Steps, each}
+use Rattle.run.proofs.Going.{SameSteps, one-run}
+use Rattle.run.proofs.One.{one-clock}
 use Rattle.files.specs.Read.{FileOutcome, netlist, faulty}
-use Rattle.netlists.specs.Check.{Checks, accepted}
+use Rattle.netlists.specs.Check.{NetChecks, accepted}
 use Rattle.netlists.proofs.Checking as checking
 use Rattle.verdicts.specs.declared.Answer.{Answer}
 use Rattle.verdicts.specs.declared.Listing.{Listing}
 use Rattle.verdicts.specs.declared.Reaction.{Reaction}
-use Rattle.verdicts.specs.Answers.{passes, verdict}
+use Rattle.verdicts.specs.Answers.{stops, verdict}
+use Rattle.verdicts.specs.Runs.{Asked, Told, needed, hasRoom, Once}
+use Rattle.verdicts.proofs.Running.{all-pass, one-ran, one-once}
 use Rattle.netlist_entries.specs.Files.{Filed, NetWritten}
 use Rattle.netlist_entries.specs.Cells.{Handed, NetListed}
-use Rattle.netlist_entries.specs.Netlists.{netVerdict, NetChecked, netEvent, netState, NetReacting, NetReacted}
+use Rattle.netlist_entries.specs.Netlists.{netVerdict, NetChecked, netEvents, netState, netStep, NetRuns, NetReactedMany}
 
 -- the answer and what was lent
 pub record Same {A : Type 0} (r r′ : A) (lent lent′ : List ℕ) : Type 0 where
@@ -45,28 +50,30 @@ module _ (found : FileOutcome) where
 pub one-net-checked : (found : FileOutcome) {r r′ : Answer} → NetChecked found r → NetChecked found r′ → r ≡ r′
 one-net-checked found a b = let same = checking.one-check (a .checks) (b .checks) in a .answer ∙ rw same (sym (b .answer))
 
--- an accepted netlist: EVENT and STATE have one answer, and so has the clock
-module _ (found : FileOutcome) (state event : ℕ) where
-  net-reacts : (w : Netlist) → Checks found (netlist w) → (e f : Bool) → netEvent (netlist w) event ≡ e → netState (netlist w) state ≡ f → {r r′ : Reaction}
-      → NetReacting (netlist w) (verdict passes e f true 0) state event r → NetReacting (netlist w) (verdict passes e f true 0) state event r′ → r ≡ r′
-  unfolding NetReacting verdict netEvent netState pick
-  net-reacts w ok false f is-event is-state a b = a ∙ sym b
-  net-reacts w ok true false is-event is-state a b = a ∙ sym b
-  net-reacts w (accepted order is ordered) true true is-event is-state a b =
-      let same : RunReacted (a .0) (a .1) ≡ RunReacted (b .0) (b .1) =
-      one-answer (w .inputs) (w .outputs) (w .cells) order ordered state event _ _ (reacted is-event is-state (a .2)) (reacted is-event is-state (b .2)) in
-      let outputs : a .0 ≡ b .0 = cc in
-      let next : a .1 ≡ b .1 = cc in
-      a .3 ∙ rw (outputs, next) (sym (b .3))
+-- an accepted netlist has one clock from any state with any event, so one run
+module _ (found : FileOutcome) (ask : Asked) where
+  clocks-alike : (w : Netlist) → NetChecks found (netlist w) → netEvents (netlist w) (ask .events) ≡ true → (a n b m : List ℕ)
+      → Steps (netStep (netlist w)) (ask .state) (setsIn (ask .events)) a n → Steps (netStep (netlist w)) (ask .state) (setsIn (ask .events)) b m → SameSteps a n b m
+  unfolding netStep netEvents
+  clocks-alike w (accepted order is ordered) own a n b m =
+      one-run (netStep (netlist w)) (λ state. Unit) (eventOk (w .inputs))
+      (λ state event out next out′ next′ good is-event x y. one-clock (w .inputs) (w .outputs) (w .cells) order ordered state event out out′ next next′ x y)
+      (λ state event out next good is-event x. tt)
+      tt (and-right (isWhole (ask .events)) (each (eventOk (w .inputs)) (setsIn (ask .events))) own)
 
-  reacts-alike : (o : FileOutcome) → Checks found o → {r r′ : Reaction}
-      → NetReacting o (verdict (netVerdict o) (netEvent o event) (netState o state) true 0) state event r
-      → NetReacting o (verdict (netVerdict o) (netEvent o event) (netState o state) true 0) state event r′ → r ≡ r′
-  unfolding NetReacting verdict netVerdict
-  reacts-alike (faulty f) ok a b = a ∙ sym b
-  reacts-alike (netlist w) ok a b = net-reacts w ok (netEvent (netlist w) event) (netState (netlist w) state) refl refl a b
+  alike : (o : FileOutcome) → NetChecks found o → {t t′ : Told} → NetRuns o ask t → NetRuns o ask t′ → t ≡ t′
+  unfolding verdict netVerdict
+  alike (faulty f) ok x y = one-ran _ _ (stops f) ask (λ e. let z : _≡_ {A = ℕ} 0 1 = cc in absurd (omega arith)) x y
+  alike (netlist w) ok x y =
+      one-ran _ _ _ ask
+      (λ e. clocks-alike w ok (all-pass (netEvents (netlist w) (ask .events)) (netState (netlist w) (ask .state)) (hasRoom ask) (needed ask) e .events-pass))
+      x y
 
-  pub one-net-reacted : {r r′ : Reaction} → NetReacted found state event r → NetReacted found state event r′ → r ≡ r′
-  one-net-reacted a b =
-      let same = checking.one-check (a .checks) (b .checks) in
-      reacts-alike (a .outcome) (a .checks) (a .answer) (rw (sym same) at (b .answer))
+pub one-net-reacted-many : (found : FileOutcome) (ask : Asked) (t t′ : Told) → NetReactedMany found ask t → NetReactedMany found ask t′ → t ≡ t′
+one-net-reacted-many found ask t t′ x y =
+    let same = checking.one-check (x .checks) (y .checks) in
+    alike found ask (x .outcome) (x .checks) (x .answer) (rw (sym same) at (y .answer))
+
+pub one-net-reacted : (found : FileOutcome) (state event : ℕ) {r r′ : Reaction} → Once (NetReactedMany found) state event r
+    → Once (NetReactedMany found) state event r′ → r ≡ r′
+one-net-reacted found state event = one-once (NetReactedMany found) (one-net-reacted-many found)

@@ -2,9 +2,9 @@
 use mathlib.Core.Path.{_≡_}
 use mathlib.Core.List.{List, [], map}
 use Prim.Native.Nat.{ℕ}
-use Rattle.gates.specs.Store.{word}
+use Rattle.cells.specs.Words.{word}
 use Rattle.files.specs.Read.{FileOutcome, netlist, faulty}
-use Rattle.netlists.specs.Check.{Checks}
+use Rattle.netlists.specs.Check.{NetChecks}
 use Rattle.verdicts.specs.declared.Answer.{Answer}
 use Rattle.verdicts.specs.declared.Listing.{Listing}
 use Rattle.verdicts.specs.Answers.{Verdict, passes, stops, refusal, withSignals, bufferAfter}
@@ -30,5 +30,5 @@ pub record Handed (o : FileOutcome) (accepted : Answer) (r : Listing) (words wor
 -- Read a netlist to cells: `found` is what reading its bytes finds.
 pub record NetListed (found : FileOutcome) (r : Listing) (words words′ : List ℕ) : Type 0 where
   pub outcome : FileOutcome
-  pub checks : Checks found outcome
+  pub checks : NetChecks found outcome
   pub handed : Handed outcome (netAccepted outcome) r words words′

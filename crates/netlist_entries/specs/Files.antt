@@ -7,7 +7,7 @@ use lib.Dec.{leb}
 use lib.ListN.{length}
 use Rattle.files.specs.File.{fileBytes}
 use Rattle.files.specs.Read.{FileOutcome, netlist, faulty}
-use Rattle.netlists.specs.Check.{Checks}
+use Rattle.netlists.specs.Check.{NetChecks}
 use Rattle.verdicts.specs.declared.Answer.{Answer}
 use Rattle.verdicts.specs.Answers.{Verdict, verdict, answerOf, bufferAfter}
 use Rattle.netlist_entries.specs.Netlists.{netVerdict, netAccepted}
@@ -29,5 +29,5 @@ pub record Filed (o : FileOutcome) (accepted r : Answer) (buffer buffer′ : Lis
 -- Write a netlist to a file: `found` is what judging its words finds.
 pub record NetWritten (found : FileOutcome) (r : Answer) (buffer buffer′ : List ℕ) : Type 0 where
   pub outcome : FileOutcome
-  pub checks : Checks found outcome
+  pub checks : NetChecks found outcome
   pub filed : Filed outcome (netAccepted outcome) r buffer buffer′

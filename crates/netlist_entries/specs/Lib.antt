@@ -1,3 +1,4 @@
 pub mod Netlists
 pub mod Files
 pub mod Cells
+pub mod Code

@@ -1,7 +1,6 @@
 -- A netlist that was judged can be ordered and run; what a check answers, and that there is no other answer.
-use Prim.Native.Nat.{ℕ, _+_, _≤_}
+use Prim.Native.Nat.{ℕ, _≤_}
 use mathlib.Core.Path.{_≡_, refl, sym, ap, _∙_, subst}
-use mathlib.Core.Bool.{Bool}
 use mathlib.Core.List.{List, map}
 use native.Mathlib.Omega.{arith}
 use lib.ListN.{length, take}
@@ -9,58 +8,40 @@ use lib.Seq.{sets, length-sets}
 use Rattle.number.specs.declared.CellNo.{CellNo}
 use Rattle.number.specs.declared.Fault.{Fault}
 use Rattle.number.specs.declared.Refusal.the-variants.{Cycle as CycleFault}
-use Rattle.number.specs.Counts.{cellNo, ofCell}
+use Rattle.number.specs.Counts.{ofCell}
 use Rattle.number.specs.Refusals.{fault}
-use Rattle.gates.specs.declared.Cell.{Cell}
-use Rattle.gates.specs.Store.{word}
-use Rattle.gates.proofs.Operands.{AllWithin}
+use Rattle.limits.specs.Limits.{maxCells}
+use Rattle.cells.specs.declared.Cell.{Cell}
+use Rattle.cells.specs.Words.{word, cellsOf}
+use Rattle.cells.specs.Netlist.{Netlist, WellFormed}
+use Rattle.cells.proofs.Words.{stored-cells}
+use Rattle.cells.proofs.Fitting.{formed-closed, formed-small}
 use Rattle.order.specs.declared.Ordering.{Ordering}
 use Rattle.order.specs.declared.Ordering.the-variants.{Found, Cycle}
-use Rattle.order.specs.Paths.{cellsOf, Closed, Lowest, Orderable, Ordered, Answers}
-use Rattle.order.proofs.Closing as closing
+use Rattle.order.specs.Paths.{Lowest, Orderable, Ordered, Answers}
 use Rattle.order.proofs.Unique.{ordered-acyclic, lowest-unique}
-use Rattle.run.specs.React.{Prepared}
 use Rattle.files.specs.declared.Header.{Header}
 use Rattle.files.specs.declared.FileRead.{FileRead}
 use Rattle.files.specs.declared.FileRead.the-variants.{Read, Refused}
-use Rattle.files.specs.File.{Netlist, WellFormed}
 use Rattle.files.specs.Read.{FileOutcome, netlist, faulty, readFile}
 use Rattle.netlists.specs.Words.{judgeCells}
-use Rattle.netlists.specs.Check.{Checks, refused, cyclic, accepted, ChecksFile, ChecksCells}
+use Rattle.netlists.specs.Check.{NetChecks, refused, cyclic, accepted, ChecksFile, ChecksCells}
 use Rattle.files.specs.Answer.{headerOf, fileAnswer, FileLaid, DidFile}
 use Rattle.netlists.specs.Checked.{afterOrder, IsOrdered, DidCheck, DidCheckFile}
-use Rattle.files.proofs.Judging.{all-within}
 use Rattle.files.proofs.Sound.{read-well-formed}
 use Rattle.netlists.proofs.Words.{CellsRight, cells-right}
 
 module _ {w : Netlist} (h : WellFormed w) where
-  within : AllWithin (1 + w .inputs) (length (w .cells)) (w .cells)
-  within = all-within (w .inputs) (length (w .cells)) (cellNo 0) (w .cells) (h .fit)
-
-  -- every operand is a cell
-  pub closed : Closed (w .cells)
-  closed = closing.closed (1 + w .inputs) within
-
   -- the words that were laid mean the cells
   pub laid-cells : {k : ℕ} (column : List ℕ) {column′ : List ℕ} → k ≡ length (w .cells) → column′ ≡ sets column 0 (map word (w .cells))
-      → 1024 ≤ length column → cellsOf (take k column′) ≡ w .cells
+      → maxCells ≤ length column → cellsOf (take k column′) ≡ w .cells
   laid-cells {k} column {column′} count laid long =
       ap (λ (n : ℕ). cellsOf (take n column′)) count ∙ ap (λ (l : List ℕ). cellsOf (take (length (w .cells)) l)) laid
-      ∙ closing.stored-cells (1 + w .inputs) within column (omega (arith, h .signals)) (omega (arith, h .few)) (omega (arith, h .few))
+      ∙ stored-cells (w .cells) column (formed-small h) (omega (arith, h .few))
 
   -- all that the search for an order asks for
-  orderable : {order : List ℕ} → 1024 ≤ length order → Orderable (w .cells) order
-  orderable places = record { closed = closed; few = h .few; long = omega (arith, h .few) }
-
-  -- and all that a clock asks for
-  pub prepared : {I O : ℕ} {order : List ℕ} {values : List Bool} → I ≡ w .inputs → O ≡ w .outputs → Ordered (w .cells) order
-      → length (w .cells) ≤ length order → length values ≡ length (w .cells) → Prepared I O (w .cells) order values
-  prepared i o ordered places long =
-      record {
-        ready =
-            record { judged = record { closed = closed; few = omega (arith, h .few); bits = h .bits; long = long }; ordered = ordered; places = places };
-        signals = record { few = omega (arith, h .signals); enough = omega (arith, h .enough) };
-      }
+  orderable : {order : List ℕ} → maxCells ≤ length order → Orderable (w .cells) order
+  orderable places = record { closed = formed-closed h; few = h .few; long = omega (arith, h .few) }
 
 -- what was found before CYCLE, by what was answered
 pub answered-fault : (o : FileOutcome) {f : Fault} → fileAnswer o ≡ Refused f → o ≡ faulty f
@@ -85,7 +66,8 @@ check-stop {found} {f} e =
     record { outcome = faulty f; checks = refused (answered-fault found e); answer = refl; ordered = tt }
 
 -- then CYCLE
-pub check-order : {found : FileOutcome} {h : Header} {order : List ℕ} (a : Answered found h) (r : Ordering) → Answers (a .net .cells) order r
+pub check-order : {found : FileOutcome} {h : Header} {order : List ℕ} (a : Answered found h) (r : Ordering)
+    → Answers (a .net .cells) order r
     → DidCheck found (afterOrder h r) order
 unfolding fileAnswer afterOrder IsOrdered
 check-order {order = order} a Found o =
@@ -96,7 +78,7 @@ check-order a (Cycle x) o =
 
 -- The two checks: what was read or judged is searched for an order.
 module _ (s : List ℕ) {r : FileRead} {column column′ : List ℕ} (d : DidFile (readFile s) r column column′) {h : Header} (e : r ≡ Read h)
-    (long : 1024 ≤ length column) where
+    (long : maxCells ≤ length column) where
   file : Answered (readFile s) h
   file = answered-netlist (readFile s) (sym (d .answer) ∙ e)
 
@@ -119,14 +101,15 @@ module _ (s : List ℕ) {r : FileRead} {column column′ : List ℕ} (d : DidFil
   same : cellsOf (take (h .cells) column′) ≡ cells
   same = laid-cells sound column count laid long
 
-  pub file-orderable : {order : List ℕ} → 1024 ≤ length order → Orderable (cellsOf (take (h .cells) column′)) order
+  pub file-orderable : {order : List ℕ} → maxCells ≤ length order → Orderable (cellsOf (take (h .cells) column′)) order
   file-orderable places = rw same (orderable sound places)
 
   pub file-checked : {order : List ℕ} (a : Ordering) → Answers (cellsOf (take (h .cells) column′)) order a
       → DidCheckFile (readFile s) (afterOrder h a) column column′ order
   file-checked a o = record { check = check-order file a (rw same at o); laid = d .laid }
 
-pub file-stopped : (s : List ℕ) {r : FileRead} {column column′ order : List ℕ} → DidFile (readFile s) r column column′ → {f : Fault} → r ≡ Refused f
+pub file-stopped : (s : List ℕ) {r : FileRead} {column column′ order : List ℕ} → DidFile (readFile s) r column column′ → {f : Fault}
+    → r ≡ Refused f
     → DidCheckFile (readFile s) (Refused f) column column′ order
 file-stopped s d e = record { check = check-stop (sym (d .answer) ∙ e); laid = d .laid }
 
@@ -140,10 +123,11 @@ module _ (I O : ℕ) (words : List ℕ) {r : FileRead} (q : r ≡ fileAnswer (ju
   same-words : judged .net .cells ≡ cellsOf words
   same-words = ap (λ (w : Netlist). w .cells) (right .is)
 
-  pub cells-orderable : {order : List ℕ} → 1024 ≤ length order → Orderable (cellsOf words) order
+  pub cells-orderable : {order : List ℕ} → maxCells ≤ length order → Orderable (cellsOf words) order
   cells-orderable places = rw (← same-words) (orderable (right .sound) places)
 
-  pub cells-checked : {order : List ℕ} (a : Ordering) → Answers (cellsOf words) order a → DidCheck (judgeCells I O words) (afterOrder h a) order
+  pub cells-checked : {order : List ℕ} (a : Ordering) → Answers (cellsOf words) order a
+      → DidCheck (judgeCells I O words) (afterOrder h a) order
   cells-checked a o = check-order judged a (rw same-words o)
 
 -- There is one answer at most.
@@ -153,7 +137,7 @@ fault-net e = let z : _≡_ {A = ℕ} 0 1 = cc in absurd (omega arith)
 own-net : {found : FileOutcome} {v w : Netlist} → found ≡ netlist v → found ≡ netlist w → v ≡ w
 own-net a b = let same : netlist _ ≡ netlist _ = sym a ∙ b in cc
 
-pub one-check : {found : FileOutcome} {o o′ : FileOutcome} → Checks found o → Checks found o′ → o ≡ o′
+pub one-check : {found : FileOutcome} {o o′ : FileOutcome} → NetChecks found o → NetChecks found o′ → o ≡ o′
 one-check (refused a) (refused b) = sym a ∙ b
 one-check (refused a) (cyclic b lowest) = fault-net (sym a ∙ b)
 one-check (refused a) (accepted order b ordered) = fault-net (sym a ∙ b)

@@ -1,3 +1,4 @@
 pub mod Words
 pub mod Checking
 pub mod Running
+pub mod Laying

@@ -1,28 +1,28 @@
--- What a netlist that was accepted gives: all that a clock asks for, in either form; and which files are accepted.
+-- What a netlist that was accepted is, in either form: well formed, its cells in order; and which files are accepted.
 use Prim.Native.Nat.{ℕ, _≤_}
 use mathlib.Core.Path.{_≡_, sym, ap, _∙_, subst}
-use mathlib.Core.Bool.{Bool}
 use mathlib.Core.List.{List}
-use native.Mathlib.Omega.{arith}
 use lib.ListN.{length, take}
 use Rattle.number.specs.Number.{Bytes}
-use Rattle.order.specs.Paths.{cellsOf, Ordered}
-use Rattle.run.specs.React.{Prepared}
+use Rattle.limits.specs.Limits.{maxCells}
+use Rattle.cells.specs.Words.{cellsOf}
+use Rattle.cells.specs.Netlist.{Netlist, netlistOf, WellFormed}
+use Rattle.order.specs.Paths.{Ordered}
 use Rattle.files.specs.declared.Header.{Header}
 use Rattle.files.specs.declared.FileRead.the-variants.{Read}
-use Rattle.files.specs.File.{Netlist, fileBytes, WellFormed}
+use Rattle.files.specs.File.{fileBytes}
 use Rattle.files.specs.Read.{FileOutcome, netlist, readFile}
 use Rattle.files.specs.Answer.{headerOf, FileLaid}
 use Rattle.files.proofs.Sound.{read-well-formed}
 use Rattle.files.proofs.ReadBack.{file-read-back, file-only-bytes}
-use Rattle.netlists.specs.Words.{netlistOf, judgeCells}
-use Rattle.netlists.specs.Check.{Checks, accepted, ChecksFile}
+use Rattle.netlists.specs.Words.{judgeCells}
+use Rattle.netlists.specs.Check.{NetChecks, accepted, ChecksFile}
 use Rattle.netlists.specs.Checked.{IsOrdered, DidCheck, DidCheckFile}
 use Rattle.netlists.proofs.Words.{CellsRight, cells-right}
-use Rattle.netlists.proofs.Checking.{prepared, laid-cells, Answered, answered-netlist}
+use Rattle.netlists.proofs.Checking.{laid-cells, Answered, answered-netlist}
 
 -- what is accepted was read or judged so
-accepted-found : {found : FileOutcome} {w : Netlist} → Checks found (netlist w) → found ≡ netlist w
+accepted-found : {found : FileOutcome} {w : Netlist} → NetChecks found (netlist w) → found ≡ netlist w
 accepted-found (accepted order e ordered) = e
 
 pub record Accepts (found : FileOutcome) (h : Header) (order : List ℕ) : Type 0 where
@@ -43,7 +43,7 @@ same-net i o cs = λ k. record { inputs = i k; outputs = o k; cells = cs k }
 
 -- of a file that was checked: the first places of the column are its cells
 module _ (s : List ℕ) {h : Header} {column column′ order : List ℕ} (d : DidCheckFile (readFile s) (Read h) column column′ order)
-    (long : 1024 ≤ length column) (places : 1024 ≤ length order) where
+    (long : maxCells ≤ length column) where
   pub file : Accepts (readFile s) h order
   file = accepts (d .check)
 
@@ -60,34 +60,31 @@ module _ (s : List ℕ) {h : Header} {column column′ order : List ℕ} (d : Di
   unfolding FileLaid
   file-cells = laid-cells sound column count (rw (file .found-as .is) at (d .laid)) long
 
-  pub file-prepared : {values : List Bool} → length values ≡ h .cells
-      → Prepared (h .inputs) (h .outputs) (cellsOf (take (h .cells) column′)) order values
-  file-prepared {values} each =
+  -- they mean the netlist that was read, so what they mean is well formed and in order
+  pub file-is : netlistOf (h .inputs) (h .outputs) (take (h .cells) column′) ≡ net
+  file-is =
       let header : h ≡ headerOf net = file .found-as .header in
-      rw file-cells
-      (prepared sound (ap (λ (x : Header). x .inputs) header) (ap (λ (x : Header). x .outputs) header) (file .ordered)
-      (omega (arith, sound .few)) (each ∙ count))
+      same-net (ap (λ (k : Header). k .inputs) header) (ap (λ (k : Header). k .outputs) header) file-cells
+
+  pub file-formed : WellFormed (netlistOf (h .inputs) (h .outputs) (take (h .cells) column′))
+  file-formed = rw file-is sound
+
+  pub file-ordered : Ordered (cellsOf (take (h .cells) column′)) order
+  file-ordered = rw file-cells (file .ordered)
 
 -- of cells as words that were checked
-module _ (I O : ℕ) (words : List ℕ) {h : Header} {order : List ℕ} (d : DidCheck (judgeCells I O words) (Read h) order) (places : 1024 ≤ length order) where
+module _ (I O : ℕ) (words : List ℕ) {h : Header} {order : List ℕ} (d : DidCheck (judgeCells I O words) (Read h) order) where
   cells : Accepts (judgeCells I O words) h order
   cells = accepts d
 
   right : CellsRight I O words (cells .found-as .net)
   right = cells-right I O words (cells .found-as .is)
 
-  pub cells-prepared : {values : List Bool} → length values ≡ length (cellsOf words) → Prepared I O (cellsOf words) order values
-  cells-prepared {values} each =
-      let w : Netlist = cells .found-as .net in
-      let is : w ≡ netlistOf I O words = right .is in
-      let same : w .cells ≡ cellsOf words = ap (λ (x : Netlist). x .cells) is in
-      let ready : Prepared I O (w .cells) order values =
-      prepared (right .sound) (sym (ap (λ (x : Netlist). x .inputs) is)) (sym (ap (λ (x : Netlist). x .outputs) is)) (cells .ordered)
-      (omega (arith, right .sound .few)) (rw same each) in
-      rw same at ready
+  pub cells-formed : WellFormed (netlistOf I O words)
+  cells-formed = subst WellFormed (right .is) (right .sound)
 
-  pub cells-sound : WellFormed (netlistOf I O words)
-  cells-sound = subst WellFormed (right .is) (right .sound)
+  pub cells-ordered : Ordered (cellsOf words) order
+  cells-ordered = subst (λ (w : Netlist). Ordered (w .cells) order) (right .is) (cells .ordered)
 
 -- The accepted files are the files of the well-formed netlists whose cells have an order.
 pub accepted-file : (s : List ℕ) {w : Netlist} → Bytes s → ChecksFile s (netlist w) → (s ≡ fileBytes w) × WellFormed w

@@ -6,32 +6,34 @@ use mathlib.Core.List.{List, [], _∷_, map}
 use native.Mathlib.Omega.{arith}
 use native.Mathlib.Numerals.{add-one}
 use lib.Dec.{eqb}
-use lib.ListN.{length, getD, drop, drop-of-length-le, length-map}
+use lib.ListN.{length, getD, drop, drop-of-length-le}
 use lib.Seq.{drop-cons}
-use borrow.Author.Tests.{eq-eqb, ne-eqb, eqb-true, eqb-false, ltb-false}
+use borrow.Author.Tests.{eq-eqb, ne-eqb, eqb-true, ltb-false}
 use Rattle.number.specs.declared.CellNo.{CellNo}
 use Rattle.number.specs.declared.Refusal.{Refusal}
 use Rattle.number.specs.declared.Refusal.the-variants.{Count, Cell as CellFault}
-use Rattle.number.specs.Counts.{cellNo, signalNo}
+use Rattle.number.specs.Counts.{cellNo}
 use Rattle.number.specs.Number.{pick}
 use Rattle.number.specs.Refusals.{fault}
-use Rattle.gates.specs.declared.Cell.{Cell}
-use Rattle.gates.specs.declared.Cell.the-variants.{Low, High, Input, Or, And, Butnot, Register}
-use Rattle.gates.specs.Store.{word, firstOf, secondOf, cellIn}
-use Rattle.gates.specs.Values.{tally}
+use Rattle.number.proofs.Bools.{and-left, and-right}
+use Rattle.limits.specs.Limits.{maxSignals, maxRegisters, manySignals}
+use Rattle.cells.specs.declared.Cell.{Cell}
+use Rattle.cells.specs.Cells.{kindOf, nextCell}
+use Rattle.cells.specs.Words.{word, cellIn, cellsOf}
+use Rattle.cells.specs.Values.{tally}
+use Rattle.cells.specs.Netlist.{Netlist, netlistOf, operandsFit, WellFormed}
+use Rattle.cells.proofs.Words.{kind-in, cells-length}
+use Rattle.cells.proofs.Counting.{tally-le}
+use Rattle.cells.proofs.Fitting.{tally-room, Fit, fit-none, fit-more}
 use Rattle.files.specs.declared.Judgement.{Judgement}
 use Rattle.files.specs.declared.Judgement.the-variants.{Right, Wrong}
-use Rattle.order.specs.Paths.{cellsOf}
 use Rattle.files.specs.declared.FileRead.the-variants.{Read, Refused}
-use Rattle.files.specs.File.{Netlist, kindOf, operandsFit, nextCell, WellFormed}
-use Rattle.files.specs.Judge.{manySignals, judgeCount, judgeKind}
+use Rattle.files.specs.Judge.{judgeCount, judgeKind}
 use Rattle.files.specs.Read.{FileOutcome, netlist, faulty}
 use Rattle.files.specs.Answer.{fileAnswer}
-use Rattle.netlists.specs.Words.{netlistOf, isPacked, judgeFields, judgeWord, unless, judgeWords, atZero, judgeCells}
-use Rattle.files.proofs.Judging.{and-left, and-right, wrong-right, CountRight, count-right, kind-right, tally-room}
-use Rattle.files.proofs.Reading.{tally-few}
+use Rattle.netlists.specs.Words.{isPacked, judgeFields, judgeWord, unless, judgeWords, atZero, judgeCells}
+use Rattle.files.proofs.Judging.{wrong-right, CountRight, count-right, kind-right}
 use Rattle.files.proofs.Standing.{by-test}
-use Rattle.files.proofs.Sound.{Fit, fit-none, fit-more}
 
 -- one word
 module _ (I m : ℕ) (x : CellNo) (k w : ℕ) where
@@ -79,7 +81,7 @@ module _ (I m : ℕ) (words : List ℕ) where
     unfolding unless
     goes-on h e =
         rw add-one record {
-          few = omega (arith, tally-few (cellIn (getD words n 0)) registers n (j .few));
+          few = omega (arith, tally-le (cellIn (getD words n 0)) registers, j .few);
           same = sym (one-word h ∙ rw e) ∙ j .same;
         }
 
@@ -88,28 +90,6 @@ module _ (I m : ℕ) (words : List ℕ) where
     ends h = let none : drop n words ≡ [] = drop-of-length-le words h in rw none at (j .same)
 
 -- What words are with which nothing is wrong.
-
--- the kind of a word is that of its cell
-kind-in : (w : ℕ) → w % 8 ≤ 6 → kindOf (cellIn w) ≡ w % 8
-unfolding cellIn
-kind-in w low =
-    let k : ℕ = w % 8 in
-    let x : CellNo = cellNo (firstOf w) in
-    let y : CellNo = cellNo (secondOf w) in
-    let P : Cell → Type 0 = λ c. kindOf c ≡ k in
-    by-test P (eqb k 1) High _ (λ t. sym (eqb-true k 1 t)) (λ n1.
-    by-test P (eqb k 2) (Input (signalNo (firstOf w))) _ (λ t. sym (eqb-true k 2 t)) (λ n2.
-    by-test P (eqb k 3) (Or x y) _ (λ t. sym (eqb-true k 3 t)) (λ n3.
-    by-test P (eqb k 4) (And x y) _ (λ t. sym (eqb-true k 4 t)) (λ n4.
-    by-test P (eqb k 5) (Butnot x y) _ (λ t. sym (eqb-true k 5 t)) (λ n5.
-    by-test P (eqb k 6) (Register x) Low (λ t. sym (eqb-true k 6 t)) (λ n6.
-    let not-1 : k ≡ 1 → ⊥ = eqb-false k 1 n1 in
-    let not-2 : k ≡ 2 → ⊥ = eqb-false k 2 n2 in
-    let not-3 : k ≡ 3 → ⊥ = eqb-false k 3 n3 in
-    let not-4 : k ≡ 4 → ⊥ = eqb-false k 4 n4 in
-    let not-5 : k ≡ 5 → ⊥ = eqb-false k 5 n5 in
-    let not-6 : k ≡ 6 → ⊥ = eqb-false k 6 n6 in
-    omega arith))))))
 
 record WordRight (m : ℕ) (x : CellNo) (w : ℕ) (kind : Judgement) : Type 0 where
   right : kind ≡ Right
@@ -148,7 +128,7 @@ pub record WordsFit (I m : ℕ) (x : CellNo) (k : ℕ) (words : List ℕ) : Type
   pub fit : Fit I m x k (cellsOf words)
   pub packed : map word (cellsOf words) ≡ words
 
-words-fit : (I m : ℕ) (x : CellNo) (k : ℕ) (words : List ℕ) → k ≤ 64 → judgeWords I m x k words ≡ Right → WordsFit I m x k words
+words-fit : (I m : ℕ) (x : CellNo) (k : ℕ) (words : List ℕ) → k ≤ maxRegisters → judgeWords I m x k words ≡ Right → WordsFit I m x k words
 unfolding judgeWords
 words-fit I m x k [] few e = record { fit = fit-none I m x k few; packed = refl }
 words-fit I m x k (w ∷ ws) few e =
@@ -158,7 +138,7 @@ words-fit I m x k (w ∷ ws) few e =
     let this = right-word I m x k w (parts .first) in
     let low = kind-right I x k (w % 8) (this .right) in
     let kind : kindOf c ≡ w % 8 = kind-in w (low .low) in
-    let room : tally c k ≤ 64 = tally-room c k few (rw kind (low .room)) in
+    let room : tally c k ≤ maxRegisters = tally-room c k few (rw kind (low .room)) in
     let rest = words-fit I m (nextCell x) next ws room (parts .rest) in
     record { fit = fit-more c (cellsOf ws) (rw kind (low .fits)) (this .operands) (rest .fit); packed = rw (this .packed, rest .packed) }
 
@@ -176,14 +156,14 @@ module _ (I O : ℕ) (words : List ℕ) where
   all-right : manySignals I O ≡ false → judgeCount I O (length words) ≡ Right → judgeWords I (length words) (cellNo 0) 0 words ≡ Right
       → CellsRight I O words (netlistOf I O words)
   all-right few count all =
-      let m : length (cellsOf words) ≡ length words = length-map words cellIn in
+      let m : length (cellsOf words) ≡ length words = cells-length words in
       let right : CountRight I O (length words) = count-right I O (length words) count in
       let each = words-fit I (length words) (cellNo 0) 0 words (omega arith) all in
       record {
         is = refl;
         sound =
             record {
-              signals = ltb-false 64 (1 + I + O) few;
+              signals = ltb-false maxSignals (1 + I + O) few;
               few = rw m (right .few);
               enough = rw m (right .enough);
               bits = omega (arith, each .fit .bits);
@@ -228,11 +208,12 @@ module _ (I O : ℕ) (words : List ℕ) where
     cells-count {r} e = rw (judged (Wrong r) (rw e))
 
     module _ (count : judgeCount I O (length words) ≡ Right) where
-      pub cells-wrong : {r : Refusal} → judgeWords I (length words) (cellNo 0) 0 words ≡ Wrong r → fileAnswer (judgeCells I O words) ≡ Refused (fault r 0)
+      pub cells-wrong : {r : Refusal} → judgeWords I (length words) (cellNo 0) 0 words ≡ Wrong r
+          → fileAnswer (judgeCells I O words) ≡ Refused (fault r 0)
       unfolding fileAnswer atZero unless
       cells-wrong {r} e = rw (judged (Wrong r) (rw count e))
 
       pub cells-netlist : judgeWords I (length words) (cellNo 0) 0 words ≡ Right
           → fileAnswer (judgeCells I O words) ≡ Read (record { inputs = I; outputs = O; cells = length words })
       unfolding fileAnswer atZero unless
-      cells-netlist e = rw (judged Right (rw count e)) (rw (length-map words cellIn))
+      cells-netlist e = rw (judged Right (rw count e)) (rw (cells-length words))

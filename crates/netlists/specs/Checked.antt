@@ -1,3 +1,4 @@
+-- Not to be believed: what the code keeps to; the proofs check it.
 -- What the code of a check answers, by the definitions.
 use mathlib.Core.Path.{_≡_}
 use mathlib.Core.List.{List}
@@ -13,7 +14,7 @@ use Rattle.files.specs.declared.FileRead.{FileRead}
 use Rattle.files.specs.declared.FileRead.the-variants.{Read, Refused}
 use Rattle.files.specs.Read.{FileOutcome, netlist, faulty}
 use Rattle.files.specs.Answer.{fileAnswer, FileLaid}
-use Rattle.netlists.specs.Check.{Checks}
+use Rattle.netlists.specs.Check.{NetChecks}
 
 -- what is answered after the search for an order
 unfoldable pub afterOrder : Header → Ordering → FileRead
@@ -28,7 +29,7 @@ IsOrdered (faulty f) order = Unit
 -- the answer of a check, and the order that it leaves
 pub record DidCheck (found : FileOutcome) (r : FileRead) (order : List ℕ) : Type 0 where
   pub outcome : FileOutcome
-  pub checks : Checks found outcome
+  pub checks : NetChecks found outcome
   pub answer : r ≡ fileAnswer outcome
   pub ordered : IsOrdered outcome order
 

@@ -1,3 +1,4 @@
 pub mod Words
 pub mod Check
 pub mod Checked
+pub mod Write

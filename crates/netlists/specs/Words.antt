@@ -9,18 +9,15 @@ use Rattle.number.specs.declared.Refusal.the-variants.{Count, Cell as CellFault
 use Rattle.number.specs.Counts.{cellNo}
 use Rattle.number.specs.Number.{pick}
 use Rattle.number.specs.Refusals.{fault}
-use Rattle.gates.specs.Store.{word, cellIn}
-use Rattle.gates.specs.Values.{tally}
-use Rattle.order.specs.Paths.{cellsOf}
+use Rattle.limits.specs.Limits.{manySignals}
+use Rattle.cells.specs.Cells.{nextCell}
+use Rattle.cells.specs.Words.{word, cellIn}
+use Rattle.cells.specs.Values.{tally}
+use Rattle.cells.specs.Netlist.{Netlist, netlistOf, operandsFit}
 use Rattle.files.specs.declared.Judgement.{Judgement}
 use Rattle.files.specs.declared.Judgement.the-variants.{Right, Wrong}
-use Rattle.files.specs.File.{Netlist, operandsFit, nextCell}
-use Rattle.files.specs.Judge.{manySignals, judgeCount, judgeKind}
+use Rattle.files.specs.Judge.{judgeCount, judgeKind}
 use Rattle.files.specs.Read.{FileOutcome, netlist, faulty}
-
--- the netlist that words mean
-abbrev pub netlistOf : ℕ → ℕ → List ℕ → Netlist
-netlistOf I O words = record { inputs = I; outputs = O; cells = cellsOf words }
 
 -- nothing stands in a field that the word's kind does not use
 unfoldable pub isPacked : ℕ → Bool

@@ -1,18 +1,24 @@
-// A netlist in either form, a file's bytes or I, O and words: judged, and its cells ordered.
+// A netlist in either form, a file's bytes or I, O and words: judged, its cells ordered, and written to a file.
+mod writer;
+
+use cells::Cell;
 use files::FileRead;
 use files::Header;
 use files::Judgement;
-use gates::Cell;
 use number::CellNo;
 use number::Refusal;
 use order::Ordering;
+pub use writer::FileWritten;
+pub use writer::write_file;
 ghost use mathlib.Core.Path.{_≡_};
 ghost use mathlib.Core.Bool.{_&&_};
 ghost use Prim.Native.Nat.{_<_, _≤_};
 ghost use lib.ListN.{length, getD, take};
 ghost use Rattle.number.specs.Counts.{ofCell, cellNo};
-ghost use Rattle.order.specs.Paths.{cellsOf, Orderable, Answers};
-ghost use Rattle.files.specs.File.{isNet, operandsFit};
+ghost use Rattle.limits.specs.Limits.{maxCells};
+ghost use Rattle.cells.specs.Words.{cellsOf};
+ghost use Rattle.cells.specs.Netlist.{isNet, operandsFit};
+ghost use Rattle.order.specs.Paths.{Orderable, Answers};
 ghost use Rattle.files.specs.Read.{readFile};
 ghost use Rattle.files.specs.Answer.{fileAnswer};
 ghost use Rattle.netlists.specs.Words.{judgeWord, judgeWords, judgeCells};
@@ -26,9 +32,7 @@ fn operands_fit(m: u32, x: CellNo, c: Cell) -> bool
         Cell::Low => true,
         Cell::High => true,
         Cell::Input(s) => s.number() as u32 + 1 == x.number() as u32,
-        Cell::Or(y, z) => are_nets(m, y, z),
-        Cell::And(y, z) => are_nets(m, y, z),
-        Cell::Butnot(y, z) => are_nets(m, y, z),
+        Cell::Gate(_, y, z) => are_nets(m, y, z),
         Cell::Register(y) => (y.number() as u32) < m,
     }
 }
@@ -51,11 +55,11 @@ fn judge_word(words: &[u64], h: Header, x: CellNo, registers: u32) -> Judgement
     match files::judge_kind(h.inputs, x, registers, (w % 8) as u32) {
         Judgement::Wrong(refusal) => Judgement::Wrong(refusal),
         Judgement::Right => {
-            let c = gates::cell_at(words, x);
+            let c = cells::cell_at(words, x);
             if !operands_fit(h.cells, x, c) {
                 return Judgement::Wrong(Refusal::Cell);
             }
-            if gates::word_of(c) == w {
+            if cells::word_of(c) == w {
                 return Judgement::Right;
             }
             Judgement::Wrong(Refusal::Cell)
@@ -65,7 +69,7 @@ fn judge_word(words: &[u64], h: Header, x: CellNo, registers: u32) -> Judgement
 
 // The words, in order.
 fn judge_words(words: &[u64], h: Header) -> Judgement
-    requires { ⌜ (length (now words) ≤ 1024) × (h .cells ≡ length (now words)) ⌝ }
+    requires { ⌜ (length (now words) ≤ maxCells) × (h .cells ≡ length (now words)) ⌝ }
     ensures { λ r. ⌜ r ≡ judgeWords (h .inputs) (h .cells) (cellNo 0) 0 (now (words .entry)) ⌝ }
 {
     let mut n: usize = 0;
@@ -75,7 +79,7 @@ fn judge_words(words: &[u64], h: Header) -> Judgement
         match judge_word(words, h, x, registers) {
             Judgement::Wrong(refusal) => return Judgement::Wrong(refusal),
             Judgement::Right => {
-                registers = run::tally(gates::cell_at(words, x), registers);
+                registers = cells::tally(cells::cell_at(words, x), registers);
                 n += 1;
             }
         }
@@ -126,7 +130,7 @@ fn order_first(cells: &[u64], m: usize, order: &mut [u16]) -> Ordering
 
 // The whole check of a file. On acceptance its cells stand in the first places of `cells`, and an order of them in those of `order`.
 pub fn check_file(s: &[u8], cells: &mut [u64], order: &mut [u16]) -> FileRead
-    requires { ⌜ (1024 ≤ length (now cells)) × (1024 ≤ length (now order)) ⌝ }
+    requires { ⌜ (maxCells ≤ length (now cells)) × (maxCells ≤ length (now order)) ⌝ }
     ensures { λ r. ⌜ DidCheckFile (readFile (now (s .entry))) r (now (cells .entry)) (now (cells .exit)) (now (order .exit)) ⌝ }
 {
     match files::read_file(s, cells) {
@@ -140,7 +144,7 @@ pub fn check_file(s: &[u8], cells: &mut [u64], order: &mut [u16]) -> FileRead
 
 // The whole check of cells as words. On acceptance an order of them stands in the first places of `order`.
 pub fn check_cells(i: u32, o: u32, words: &[u64], order: &mut [u16]) -> FileRead
-    requires { ⌜ 1024 ≤ length (now order) ⌝ }
+    requires { ⌜ maxCells ≤ length (now order) ⌝ }
     ensures { λ r. ⌜ DidCheck (judgeCells i o (now (words .entry))) r (now (order .exit)) ⌝ }
 {
     match judge_cells(i, o, words) {

@@ -1,2 +1,4 @@
+pub mod Bools
+pub mod Lists
 pub mod Laws
 pub mod Writing

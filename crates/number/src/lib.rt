@@ -69,7 +69,8 @@ impl CellNo {
     }
 }
 
-// The paper's "Numbers returned", 1 to 16 in its order.
+// The paper's "Numbers returned", 1 to 16 in its order, and those that the requests add, 17 to 22, by the names that they have there. These stand here whether or
+// not their request has landed, so that none adds a case to a type that every crate goes by.
 pub enum Refusal {
     Short,
     Number,
@@ -87,6 +88,12 @@ pub enum Refusal {
     State,
     Buffer,
     Cell,
+    Word,
+    Name,
+    Cover,
+    Order,
+    Line,
+    States,
 }
 
 // A refusal with its place.
@@ -115,6 +122,12 @@ pub fn refusal_no(r: Refusal) -> u8
         Refusal::State => 14,
         Refusal::Buffer => 15,
         Refusal::Cell => 16,
+        Refusal::Word => 17,
+        Refusal::Name => 18,
+        Refusal::Cover => 19,
+        Refusal::Order => 20,
+        Refusal::Line => 21,
+        Refusal::States => 22,
     }
 }
 

@@ -1,6 +1,6 @@
 -- An order of cells, by a computed test: each cell's place in it is given beside it. So an example's order holds by computation.
-use mathlib.Core.Path.{_≡_, refl, _∙_, ap, subst}
-use mathlib.Core.Bool.{Bool, true, false, _&&_, false≢true}
+use mathlib.Core.Path.{_≡_, _∙_, ap, subst}
+use mathlib.Core.Bool.{Bool, true, _&&_}
 use mathlib.Core.List.{List}
 use mathlib.Core.Logic.{⊎-elim}
 use Prim.Native.Nat.{ℕ, zero, suc, _<_}
@@ -11,19 +11,13 @@ use lib.ListN.{length, getD}
 use borrow.Author.Tests.{ltb-true, eqb-true}
 use Rattle.number.specs.declared.CellNo.{CellNo}
 use Rattle.number.specs.Counts.{cellNo, ofCell}
-use Rattle.gates.specs.declared.Cell.{Cell}
-use Rattle.gates.specs.Values.{cellAt}
-use Rattle.order.specs.declared.Pins.{Pins}
-use Rattle.order.specs.declared.Pins.the-variants.{None, Two}
-use Rattle.order.specs.Paths.{pinsOf, Among, Needs, IsCell, placed, Ordered}
-
-and-first : (a b : Bool) → (a && b) ≡ true → a ≡ true
-and-first true b e = refl
-and-first false b e = absurd (false≢true e)
-
-and-second : (a b : Bool) → (a && b) ≡ true → b ≡ true
-and-second true b e = e
-and-second false b e = absurd (false≢true e)
+use Rattle.number.proofs.Bools.{and-left, and-right}
+use Rattle.cells.specs.declared.Cell.{Cell}
+use Rattle.cells.specs.Cells.{cellAt}
+use Rattle.cells.specs.declared.Pins.{Pins}
+use Rattle.cells.specs.declared.Pins.the-variants.{None, Two}
+use Rattle.cells.specs.Needs.{pinsOf, Among, Needs, IsCell}
+use Rattle.order.specs.Paths.{placed, Ordered}
 
 -- f holds of all numbers below n
 unfoldable pub every : ℕ → (ℕ → Bool) → Bool
@@ -33,10 +27,10 @@ every (suc n) f = f n && every n f
 each-of : (n : ℕ) (f : ℕ → Bool) → every n f ≡ true → (k : ℕ) → k < n → f k ≡ true
 unfolding every
 each-of zero f e k l = absurd (omega arith)
-each-of (suc n) f e k l = go (ℕ-discrete k n) (each-of n f (and-second (f n) (every n f) e) k)
+each-of (suc n) f e k l = go (ℕ-discrete k n) (each-of n f (and-right (f n) (every n f) e) k)
   where
     go : Dec (k ≡ n) → (k < n → f k ≡ true) → f k ≡ true
-    go (yes here) below = ap f here ∙ and-first (f n) (every n f) e
+    go (yes here) below = ap f here ∙ and-left (f n) (every n f) e
     go (no other) below = below (omega arith)
 
 module _ (cells : List Cell) (order places : List ℕ) where
@@ -63,33 +57,33 @@ module _ (cells : List Cell) (order places : List ℕ) where
   stands-before : (j : ℕ) (y : CellNo) → before j y ≡ true → (i : ℕ) × (i < j) × (placed order i ≡ y)
   stands-before j y e =
       let i : ℕ = place (ofCell y) in
-      (i, ltb-true i j (and-first (ltb i j) (eqb (at i) (ofCell y)) e), ap cellNo (eqb-true (at i) (ofCell y) (and-second (ltb i j) (eqb (at i) (ofCell y)) e)))
+      (i, ltb-true i j (and-left (ltb i j) (eqb (at i) (ofCell y)) e), ap cellNo (eqb-true (at i) (ofCell y) (and-right (ltb i j) (eqb (at i) (ofCell y)) e)))
 
   pins-before : (j : ℕ) (p : Pins) (y : CellNo) → needed j p ≡ true → Among p y → (i : ℕ) × (i < j) × (placed order i ≡ y)
   pins-before j None y e h = absurd h
   pins-before j (Two a b) y e h =
-      ⊎-elim (λ q. subst (λ (z : CellNo). (i : ℕ) × (i < j) × (placed order i ≡ z)) q (stands-before j a (and-first (before j a) (before j b) e)))
-      (λ q. subst (λ (z : CellNo). (i : ℕ) × (i < j) × (placed order i ≡ z)) q (stands-before j b (and-second (before j a) (before j b) e))) h
+      ⊎-elim (λ q. subst (λ (z : CellNo). (i : ℕ) × (i < j) × (placed order i ≡ z)) q (stands-before j a (and-left (before j a) (before j b) e)))
+      (λ q. subst (λ (z : CellNo). (i : ℕ) × (i < j) × (placed order i ≡ z)) q (stands-before j b (and-right (before j a) (before j b) e))) h
 
   pub ordered : every (length cells) inOrder ≡ true → Ordered cells order
   unfolding inOrder
   ordered all = record { cell = cell; once = once; each = each; after = after }
     where
       there : (j : ℕ) → j < length cells → (ltb (at j) (length cells) && eqb (place (at j)) j) ≡ true
-      there j l = and-first (ltb (at j) (length cells) && eqb (place (at j)) j) _ (each-of (length cells) inOrder all j l)
+      there j l = and-left (ltb (at j) (length cells) && eqb (place (at j)) j) _ (each-of (length cells) inOrder all j l)
 
       rest : (j : ℕ) → j < length cells
           → (needed j (pinsOf (cellAt cells (cellNo (at j)))) && (ltb (place j) (length cells) && eqb (at (place j)) j)) ≡ true
-      rest j l = and-second (ltb (at j) (length cells) && eqb (place (at j)) j) _ (each-of (length cells) inOrder all j l)
+      rest j l = and-right (ltb (at j) (length cells) && eqb (place (at j)) j) _ (each-of (length cells) inOrder all j l)
 
       back : (j : ℕ) → j < length cells → place (at j) ≡ j
-      back j l = eqb-true (place (at j)) j (and-second (ltb (at j) (length cells)) (eqb (place (at j)) j) (there j l))
+      back j l = eqb-true (place (at j)) j (and-right (ltb (at j) (length cells)) (eqb (place (at j)) j) (there j l))
 
       found : (x : ℕ) → x < length cells → (ltb (place x) (length cells) && eqb (at (place x)) x) ≡ true
-      found x l = and-second (needed x (pinsOf (cellAt cells (cellNo (at x))))) _ (rest x l)
+      found x l = and-right (needed x (pinsOf (cellAt cells (cellNo (at x))))) _ (rest x l)
 
       cell : (j : ℕ) → j < length cells → IsCell cells (placed order j)
-      cell j l = ltb-true (at j) (length cells) (and-first (ltb (at j) (length cells)) (eqb (place (at j)) j) (there j l))
+      cell j l = ltb-true (at j) (length cells) (and-left (ltb (at j) (length cells)) (eqb (place (at j)) j) (there j l))
 
       once : (i j : ℕ) → i < j → j < length cells → placed order i ≡ placed order j → ⊥
       once i j l m e =
@@ -102,10 +96,10 @@ module _ (cells : List Cell) (order places : List ℕ) where
       each x l =
           let j : ℕ = place (ofCell x) in (
             j,
-            ltb-true j (length cells) (and-first (ltb j (length cells)) (eqb (at j) (ofCell x)) (found (ofCell x) l)),
-            ap cellNo (eqb-true (at j) (ofCell x) (and-second (ltb j (length cells)) (eqb (at j) (ofCell x)) (found (ofCell x) l))),
+            ltb-true j (length cells) (and-left (ltb j (length cells)) (eqb (at j) (ofCell x)) (found (ofCell x) l)),
+            ap cellNo (eqb-true (at j) (ofCell x) (and-right (ltb j (length cells)) (eqb (at j) (ofCell x)) (found (ofCell x) l))),
           )
 
       after : (j : ℕ) (y : CellNo) → j < length cells → Needs cells (placed order j) y → (i : ℕ) × (i < j) × (placed order i ≡ y)
       after j y l h =
-          pins-before j (pinsOf (cellAt cells (cellNo (at j)))) y (and-first (needed j (pinsOf (cellAt cells (cellNo (at j))))) _ (rest j l)) (h .among)
+          pins-before j (pinsOf (cellAt cells (cellNo (at j)))) y (and-left (needed j (pinsOf (cellAt cells (cellNo (at j))))) _ (rest j l)) (h .among)

@@ -2,7 +2,7 @@
 -- waits for one.
 use Prim.Native.Nat.{ℕ, suc, zero, _<_}
 use mathlib.Core.Path.{_≡_, refl, ap}
-use mathlib.Core.Bool.{Bool, true, false, _||_}
+use mathlib.Core.Bool.{Bool, false, _||_}
 use mathlib.Core.List.{List, [], _∷_}
 use mathlib.Core.Logic.{inl, inr, ⊎-elim}
 use native.Mathlib.Omega.{arith}
@@ -11,13 +11,16 @@ use lib.Dec.{eqb}
 use borrow.Author.Tests.{eqb-false}
 use Rattle.number.specs.Counts.{cellNo, ofCell}
 use Rattle.number.specs.declared.CellNo.{CellNo}
-use Rattle.gates.specs.declared.Cell.{Cell}
-use Rattle.gates.specs.declared.Cell.the-variants.{Low, High, Or, And, Butnot, Register}
-use Rattle.order.specs.declared.Pins.{Pins}
-use Rattle.order.specs.declared.Pins.the-variants.{None, Two}
+use Rattle.number.proofs.Bools.{or-left-off, or-right-off}
+use Rattle.cells.specs.declared.Cell.{Cell}
+use Rattle.cells.specs.declared.Cell.the-variants.{Low, High, Gate, Register}
+use Rattle.cells.specs.declared.Gate.the-variants.{Or, And, Butnot}
+use Rattle.cells.specs.declared.Pins.{Pins}
+use Rattle.cells.specs.declared.Pins.the-variants.{None, Two}
+use Rattle.cells.specs.Needs.{pinsOf, Among, Needs}
 use Rattle.order.specs.declared.Ordering.{Ordering}
 use Rattle.order.specs.declared.Ordering.the-variants.{Cycle}
-use Rattle.order.specs.Paths.{pinsOf, Among, Needs, Reaches, one, more, OnCycle, Lowest, Answers}
+use Rattle.order.specs.Paths.{Reaches, one, more, OnCycle, Lowest, Answers}
 use Rattle.order.proofs.Unique.{answers-cycle, answer-unique}
 
 -- the first step of a way, and its last
@@ -38,30 +41,22 @@ abbrev needed : List Cell → ℕ → Bool
 needed [] y = false
 needed (c ∷ cells) y = asks (pinsOf c) y || needed cells y
 
-or-left : (a b : Bool) → (a || b) ≡ false → a ≡ false
-or-left true b e = e
-or-left false b e = refl
-
-or-right : (a b : Bool) → (a || b) ≡ false → b ≡ false
-or-right true b e = let z : _≡_ {A = ℕ} 0 1 = cc in absurd (omega arith)
-or-right false b e = e
-
 not-needed : (cells : List Cell) (k y : ℕ) → needed cells y ≡ false → Among (pinsOf (getD cells k Low)) (cellNo y) → ⊥
 not-needed [] k y e h = h
-not-needed (c ∷ cells) zero y e h = not-asked (pinsOf c) (or-left (asks (pinsOf c) y) _ e) h
+not-needed (c ∷ cells) zero y e h = not-asked (pinsOf c) (or-left-off (asks (pinsOf c) y) _ e) h
   where
     not-asked : (p : Pins) → asks p y ≡ false → Among p (cellNo y) → ⊥
     not-asked None e h = h
     not-asked (Two a b) e h =
-        ⊎-elim (λ q. eqb-false (ofCell a) y (or-left (eqb (ofCell a) y) _ e) (ap ofCell q))
-        (λ q. eqb-false (ofCell b) y (or-right (eqb (ofCell a) y) _ e) (ap ofCell q)) h
-not-needed (c ∷ cells) (suc k) y e h = not-needed cells k y (or-right (asks (pinsOf c) y) _ e) h
+        ⊎-elim (λ q. eqb-false (ofCell a) y (or-left-off (eqb (ofCell a) y) _ e) (ap ofCell q))
+        (λ q. eqb-false (ofCell b) y (or-right-off (eqb (ofCell a) y) _ e) (ap ofCell q)) h
+not-needed (c ∷ cells) (suc k) y e h = not-needed cells k y (or-right-off (asks (pinsOf c) y) _ e) h
 
 -- P5, sheet `00 00 0A 05 01 00 02 01`
 abbrev p5 : List Cell
 p5 =
-    Low ∷ (High ∷ (Or (cellNo 6) (cellNo 0) ∷ (Register (cellNo 1) ∷ (Butnot (cellNo 1) (cellNo 3)
-    ∷ (And (cellNo 4) (cellNo 2) ∷ (Butnot (cellNo 4) (cellNo 2) ∷ (Or (cellNo 5) (cellNo 6) ∷ [])))))))
+    Low ∷ (High ∷ (Gate Or (cellNo 6) (cellNo 0) ∷ (Register (cellNo 1) ∷ (Gate Butnot (cellNo 1) (cellNo 3)
+    ∷ (Gate And (cellNo 4) (cellNo 2) ∷ (Gate Butnot (cellNo 4) (cellNo 2) ∷ (Gate Or (cellNo 5) (cellNo 6) ∷ [])))))))
 
 -- cell 2 needs 6, and 6 needs 2; low and high need nothing
 p5-lowest : Lowest p5 (cellNo 2)
@@ -79,9 +74,9 @@ p5-answer order r a = answer-unique r (Cycle (cellNo 2)) a (answers-cycle {order
 -- sheet `00 01 0A 03 05 02 02 01 00 05 02 00 02 02`: cell 2 is the output, which needs the local's cell 3 by way of 6; cell 3 is on a cycle with 10
 abbrev waiting : List Cell
 waiting =
-    Low ∷ (High ∷ (Or (cellNo 6) (cellNo 0) ∷ (Or (cellNo 10) (cellNo 0) ∷ (Register (cellNo 1) ∷ (Butnot (cellNo 1) (cellNo 4)
-    ∷ (And (cellNo 5) (cellNo 3) ∷ (Butnot (cellNo 5) (cellNo 3) ∷ (Or (cellNo 6) (cellNo 7) ∷ (And (cellNo 8) (cellNo 3)
-    ∷ (Butnot (cellNo 8) (cellNo 3) ∷ (Or (cellNo 9) (cellNo 10) ∷ [])))))))))))
+    Low ∷ (High ∷ (Gate Or (cellNo 6) (cellNo 0) ∷ (Gate Or (cellNo 10) (cellNo 0) ∷ (Register (cellNo 1) ∷ (Gate Butnot (cellNo 1) (cellNo 4)
+    ∷ (Gate And (cellNo 5) (cellNo 3) ∷ (Gate Butnot (cellNo 5) (cellNo 3) ∷ (Gate Or (cellNo 6) (cellNo 7) ∷ (Gate And (cellNo 8) (cellNo 3)
+    ∷ (Gate Butnot (cellNo 8) (cellNo 3) ∷ (Gate Or (cellNo 9) (cellNo 10) ∷ [])))))))))))
 
 -- cell 3 needs 10, and 10 needs 3; no cell needs 2
 waiting-lowest : Lowest waiting (cellNo 3)

@@ -8,9 +8,10 @@ use lib.ListN.{length, getD, set, replicate, List·getD-eq-default}
 use lib.Seq.{getD-set-same, getD-set-other}
 use Rattle.number.specs.Counts.{cellNo, ofCell}
 use Rattle.number.specs.declared.CellNo.{CellNo}
-use Rattle.gates.specs.declared.Cell.{Cell}
+use Rattle.limits.specs.Limits.{maxCells}
+use Rattle.cells.specs.declared.Cell.{Cell}
 use Rattle.order.specs.Paths.{Orderable, placed}
-use Rattle.order.specs.Search.{Lent, mark, IsBlank, Seen, Stands, zeros}
+use Rattle.order.specs.Search.{WorkRoom, mark, IsBlank, Seen, Stands, zeros}
 
 -- two cells are the same or not
 pub same : (x y : CellNo) → Dec (x ≡ y)
@@ -110,12 +111,12 @@ clear-all marks i h z k = go (decLt k i)
     go (no n) = List·getD-eq-default marks 0 (omega arith)
 
 -- A store keeps a column's length, so what was lent suffices after it.
-pub still-lent : {cells : List Cell} {marks marks′ stack stack′ : List ℕ} → Lent cells marks stack → length marks′ ≡ length marks
-    → length stack′ ≡ length stack → Lent cells marks′ stack′
+pub still-lent : {cells : List Cell} {marks marks′ stack stack′ : List ℕ} → WorkRoom cells marks stack → length marks′ ≡ length marks
+    → length stack′ ≡ length stack → WorkRoom cells marks′ stack′
 still-lent l m s = record { few = l .few; wide = omega (arith, l .wide); deep = omega (arith, l .deep) }
 
--- Columns of 1,024 entries suffice for all cells that can be ordered, and zeros are no marks.
-pub lent : {cells : List Cell} {marks stack order : List ℕ} → Orderable cells order → length marks ≡ 1024 → length stack ≡ 1024 → Lent cells marks stack
+-- Columns with an entry for each of the most cells suffice for all cells that can be ordered, and zeros are no marks.
+pub lent : {cells : List Cell} {marks stack order : List ℕ} → Orderable cells order → length marks ≡ maxCells → length stack ≡ maxCells → WorkRoom cells marks stack
 lent o m s = record { few = omega (arith, o .few); wide = omega (arith, o .few); deep = omega (arith, o .few) }
 
 pub blank : (n : ℕ) → IsBlank (replicate n 0)

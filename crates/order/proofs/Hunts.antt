@@ -10,16 +10,17 @@ use borrow.Author.Count.{below-more}
 use lib.ListN.{length, set, length-set}
 use Rattle.number.specs.Counts.{cellNo, ofCell}
 use Rattle.number.specs.declared.CellNo.{CellNo}
-use Rattle.gates.specs.declared.Cell.{Cell}
-use Rattle.gates.specs.Values.{cellAt}
-use Rattle.order.specs.declared.Pins.the-variants.{None, Two}
-use Rattle.order.specs.Paths.{IsCell, pinsOf, Needs, Reaches, one, more, OnCycle, Closed, placed}
-use Rattle.order.specs.Search.{Lent, mark, IsBlank, Seen, Stands, zeros, HasCycle, Hunting, Noted, old, new, Expanded}
-use Rattle.order.proofs.Operands.{needs-cell, needs-as, needs-first, needs-second, needs-only, needs-none}
+use Rattle.cells.specs.declared.Cell.{Cell}
+use Rattle.cells.specs.Cells.{cellAt}
+use Rattle.cells.specs.declared.Pins.the-variants.{None, Two}
+use Rattle.cells.specs.Needs.{IsCell, pinsOf, Needs, Closed}
+use Rattle.cells.proofs.Needing.{needs-cell, needs-as, needs-first, needs-second, needs-only, needs-none}
+use Rattle.order.specs.Paths.{Reaches, one, more, OnCycle, placed}
+use Rattle.order.specs.Search.{WorkRoom, mark, IsBlank, Seen, Stands, zeros, HasCycle, Hunting, Noted, old, new, Expanded}
 use Rattle.order.proofs.Columns.{same, mark-same, mark-other, still-seen, placed-same, placed-other, still-stands, zeros-new, zeros-all, still-lent}
 
 -- Nothing is marked.
-hunt-begins : {cells : List Cell} {marks stack : List ℕ} (c e : CellNo) → Lent cells marks stack → IsBlank marks
+hunt-begins : {cells : List Cell} {marks stack : List ℕ} (c e : CellNo) → WorkRoom cells marks stack → IsBlank marks
     → Hunting cells c marks stack 0 e
 hunt-begins {cells} {marks} c e l z =
     record {
@@ -32,7 +33,7 @@ hunt-begins {cells} {marks} c e l z =
     }
 
 -- There is room on the stack for a cell that is new.
-pub note-room : {cells : List Cell} {marks stack : List ℕ} {top : ℕ} (y : CellNo) → Lent cells marks stack → top + zeros (length cells) marks ≤ length cells
+pub note-room : {cells : List Cell} {marks stack : List ℕ} {top : ℕ} (y : CellNo) → WorkRoom cells marks stack → top + zeros (length cells) marks ≤ length cells
     → IsCell cells y → mark marks y ≡ 0 → top < length stack
 note-room {cells} {marks} y l room is fresh =
     omega (arith, zeros-new (length cells) marks (ofCell y) 0 is (omega (arith, l .wide)) fresh, l .deep)
@@ -48,12 +49,12 @@ noted-seen : {marks stack marks′ stack′ : List ℕ} {top top′ : ℕ} {y : 
 noted-seen h (old seen) = seen
 noted-seen {marks} {y = y} h (new e) = omega (arith, mark-same marks y 1 h)
 
-pub noted-lent : {cells : List Cell} {marks stack marks′ stack′ : List ℕ} {top top′ : ℕ} {y : CellNo} → Lent cells marks stack
-    → Noted marks stack top y marks′ stack′ top′ → Lent cells marks′ stack′
+pub noted-lent : {cells : List Cell} {marks stack marks′ stack′ : List ℕ} {top top′ : ℕ} {y : CellNo} → WorkRoom cells marks stack
+    → Noted marks stack top y marks′ stack′ top′ → WorkRoom cells marks′ stack′
 noted-lent l (old seen) = l
 noted-lent {marks = marks} {stack} {top = top} {y = y} l (new e) = still-lent l (length-set marks (ofCell y) 1) (length-set stack top (ofCell y))
 
-pub noted-even : {cells : List Cell} {marks stack marks′ stack′ : List ℕ} {top top′ : ℕ} {y : CellNo} → Lent cells marks stack → IsCell cells y
+pub noted-even : {cells : List Cell} {marks stack marks′ stack′ : List ℕ} {top top′ : ℕ} {y : CellNo} → WorkRoom cells marks stack → IsCell cells y
     → Noted marks stack top y marks′ stack′ top′ → top′ + zeros (length cells) marks′ ≡ top + zeros (length cells) marks
 noted-even l is (old seen) = refl
 noted-even {cells} {marks} {y = y} l is (new e) =
@@ -140,7 +141,7 @@ expand-none {cells} {marks} x pins = record { hunting = λ c h way. no-exception
     all y needs = absurd (needs-none pins needs)
 
 pub expand-both : {cells : List Cell} {marks marks₁ marks₂ stack stack₁ stack₂ : List ℕ} {top top₁ top₂ : ℕ} {x a b : CellNo} → Closed cells
-    → Lent cells marks stack → pinsOf (cellAt cells x) ≡ Two a b → Noted marks stack top a marks₁ stack₁ top₁
+    → WorkRoom cells marks stack → pinsOf (cellAt cells x) ≡ Two a b → Noted marks stack top a marks₁ stack₁ top₁
     → Noted marks₁ stack₁ top₁ b marks₂ stack₂ top₂ → Expanded cells marks stack top x marks₂ stack₂ top₂
 expand-both {cells} {marks} {marks₁} {marks₂} {stack} {stack₁} {stack₂} {top} {top₁} {top₂} {x} {a} {b} closed l pins p q =
     record {
@@ -156,7 +157,7 @@ expand-both {cells} {marks} {marks₁} {marks₂} {stack} {stack₁} {stack₂} 
     is-b : IsCell cells b
     is-b = closed .gates x b (needs-second pins)
 
-    l₁ : Lent cells marks₁ stack₁
+    l₁ : WorkRoom cells marks₁ stack₁
     l₁ = noted-lent l p
 
     in-a : ofCell a < length marks
@@ -176,7 +177,7 @@ pub record Between (cells : List Cell) (c : CellNo) (marks stack : List ℕ) (to
   pub hunting : Hunting cells c marks stack top (cellNo (length cells))
   pub first : (y : CellNo) → Needs cells c y → Seen marks y
 
-pub between-begins : {cells : List Cell} {marks marks′ stack stack′ : List ℕ} {top : ℕ} (c : CellNo) → Lent cells marks stack → IsBlank marks
+pub between-begins : {cells : List Cell} {marks marks′ stack stack′ : List ℕ} {top : ℕ} (c : CellNo) → WorkRoom cells marks stack → IsBlank marks
     → Expanded cells marks stack 0 c marks′ stack′ top → Between cells c marks′ stack′ top
 between-begins c l z ex = record { hunting = ex .hunting c (hunt-begins c c l z) (λ y needs. one needs); first = ex .needs }
 

@@ -9,15 +9,16 @@ use lib.ListN.{length, set, length-set}
 use borrow.Author.Count.{below-more}
 use Rattle.number.specs.Counts.{cellNo, ofCell}
 use Rattle.number.specs.declared.CellNo.{CellNo}
-use Rattle.gates.specs.declared.Cell.{Cell}
-use Rattle.order.specs.Paths.{IsCell, Needs, Reaches, one, more, OnCycle, placed, Ordered}
-use Rattle.order.specs.Search.{Lent, mark, Seen, IsOpen, IsDone, Stands, zeros, IsBlank, Searching, Went, Through}
-use Rattle.order.proofs.Operands.{needs-as}
+use Rattle.cells.specs.declared.Cell.{Cell}
+use Rattle.cells.specs.Needs.{IsCell, Needs}
+use Rattle.cells.proofs.Needing.{needs-as}
+use Rattle.order.specs.Paths.{Reaches, one, more, OnCycle, placed, Ordered}
+use Rattle.order.specs.Search.{WorkRoom, mark, Seen, IsOpen, IsDone, Stands, zeros, IsBlank, Searching, Went, Through}
 use Rattle.order.proofs.Columns.{same, mark-same, mark-other, still-seen, seen-low, placed-same, placed-other, still-stands, zeros-new, zeros-again}
 use Rattle.order.proofs.Columns.{zeros-all, zeros-none, still-lent}
 
 -- Nothing is marked.
-pub begins : {cells : List Cell} {marks stack order : List ℕ} → Lent cells marks stack → length cells ≤ length order → IsBlank marks
+pub begins : {cells : List Cell} {marks stack order : List ℕ} → WorkRoom cells marks stack → length cells ≤ length order → IsBlank marks
     → Searching cells marks stack order 0 0
 begins {cells} {marks} l long z =
     record {

@@ -6,11 +6,12 @@ use native.Mathlib.Omega.{arith}
 use lib.ListN.{length}
 use Rattle.number.specs.Counts.{cellNo, ofCell}
 use Rattle.number.specs.declared.CellNo.{CellNo}
-use Rattle.gates.specs.declared.Cell.{Cell}
+use Rattle.cells.specs.declared.Cell.{Cell}
+use Rattle.cells.specs.Needs.{IsCell}
+use Rattle.cells.proofs.Needing.{needs-cell, needs-as}
 use Rattle.order.specs.declared.Ordering.{Ordering}
 use Rattle.order.specs.declared.Ordering.the-variants.{Found, Cycle}
-use Rattle.order.specs.Paths.{IsCell, Reaches, one, more, OnCycle, Lowest, placed, Ordered, Answers}
-use Rattle.order.proofs.Operands.{needs-cell, needs-as}
+use Rattle.order.specs.Paths.{Reaches, one, more, OnCycle, Lowest, placed, Ordered, Answers}
 
 reaches-cell : {cells : List Cell} {x y : CellNo} → Reaches cells x y → IsCell cells x
 reaches-cell (one h) = needs-cell h

@@ -1,3 +1,4 @@
+-- Not to be believed: what the code keeps to; the proofs check it.
 -- What the functions behind `order_cells` keep to while they search. Only their contracts cite it: what `order_cells` promises stands in `Paths`.
 use mathlib.Core.Path.{_≡_}
 use mathlib.Core.Bool.{Bool, true, false}
@@ -7,17 +8,18 @@ use Prim.Native.Nat.{ℕ, suc, zero, _+_, _*_, _<_, _≤_}
 use lib.ListN.{length, getD, set}
 use Rattle.number.specs.Counts.{cellNo, ofCell}
 use Rattle.number.specs.declared.CellNo.{CellNo}
-use Rattle.gates.specs.declared.Cell.{Cell}
+use Rattle.cells.specs.declared.Cell.{Cell}
+use Rattle.cells.specs.Needs.{IsCell, Needs}
 use Rattle.order.specs.declared.Next.{Next}
 use Rattle.order.specs.declared.Next.the-variants.{New, Open, Clear}
 use Rattle.order.specs.declared.Step.{Step}
 use Rattle.order.specs.declared.Step.the-variants.{On, Back}
 use Rattle.order.specs.declared.Visit.{Visit}
 use Rattle.order.specs.declared.Visit.the-variants.{Placed, Cyclic}
-use Rattle.order.specs.Paths.{IsCell, Needs, Reaches, OnCycle, placed, Ordered}
+use Rattle.order.specs.Paths.{Reaches, OnCycle, placed, Ordered}
 
 -- the work columns have an entry for each cell, whose number sixteen bits hold
-pub record Lent (cells : List Cell) (marks stack : List ℕ) : Type 0 where
+pub record WorkRoom (cells : List Cell) (marks stack : List ℕ) : Type 0 where
   pub few : length cells ≤ 65536
   pub wide : length cells ≤ length marks
   pub deep : length cells ≤ length stack
@@ -67,7 +69,7 @@ pub record Searching (cells : List Cell) (marks stack order : List ℕ) (top cou
   pub after : (j : ℕ) (y : CellNo) → j < count → Needs cells (placed order j) y → Stands order j y
   pub within : (x : CellNo) → Seen marks x → IsCell cells x
   pub room : count + (top + zeros (length cells) marks) ≡ length cells
-  pub lent : Lent cells marks stack
+  pub lent : WorkRoom cells marks stack
   pub long : length cells ≤ length order
 
 -- what is next for an open cell x: an operand that is new, one that is open, or x can be placed
@@ -117,7 +119,7 @@ pub record Hunting (cells : List Cell) (c : CellNo) (marks stack : List ℕ) (to
   pub waits : (j : ℕ) → j < top → Seen marks (placed stack j)
   pub within : (x : CellNo) → Seen marks x → IsCell cells x
   pub room : top + zeros (length cells) marks ≤ length cells
-  pub lent : Lent cells marks stack
+  pub lent : WorkRoom cells marks stack
 
 -- y is noted: it was seen before, or it is marked and waits on the stack
 pub data Noted (marks stack : List ℕ) (top : ℕ) (y : CellNo) : List ℕ → List ℕ → ℕ → Type 0 where

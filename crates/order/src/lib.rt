@@ -1,19 +1,14 @@
 // CYCLE: an order in which each cell stands after those that it needs in the same clock, or the lowest cell on a cycle.
-use gates::Cell;
+use cells::Pins;
 use number::CellNo;
 ghost use mathlib.Core.Path.{_≡_};
 ghost use Prim.Native.Nat.{_+_, _<_, _≤_};
 ghost use lib.ListN.{length};
 ghost use Rattle.number.specs.Counts.{ofCell};
-ghost use Rattle.gates.specs.Values.{cellAt};
-ghost use Rattle.order.specs.Paths.{cellsOf, pinsOf, IsCell, OnCycle, Lowest, Closed, Orderable, Answers};
-ghost use Rattle.order.specs.Search.{Lent, mark, IsBlank, zeros, Searching, IsNext, HasCycle, Stepped, Visited, AllVisited, Noted, Expanded, Decides};
-
-// The operands that a cell needs in the same clock.
-pub enum Pins {
-    None,
-    Two(CellNo, CellNo),
-}
+ghost use Rattle.cells.specs.Words.{cellsOf};
+ghost use Rattle.cells.specs.Needs.{IsCell, Closed};
+ghost use Rattle.order.specs.Paths.{OnCycle, Lowest, Orderable, Answers};
+ghost use Rattle.order.specs.Search.{WorkRoom, mark, IsBlank, zeros, Searching, IsNext, HasCycle, Stepped, Visited, AllVisited, Noted, Expanded, Decides};
 
 // The answer: an order was found, or this is the lowest cell on a cycle.
 pub enum Ordering {
@@ -40,27 +35,6 @@ enum Visit {
     Cyclic,
 }
 
-fn pins_of(c: Cell) -> Pins
-    ensures { λ r. ⌜ r ≡ pinsOf c ⌝ }
-{
-    match c {
-        Cell::Low => Pins::None,
-        Cell::High => Pins::None,
-        Cell::Input(_) => Pins::None,
-        Cell::Or(x, y) => Pins::Two(x, y),
-        Cell::And(x, y) => Pins::Two(x, y),
-        Cell::Butnot(x, y) => Pins::Two(x, y),
-        Cell::Register(_) => Pins::None,
-    }
-}
-
-// What the cell x needs.
-fn pins_at(cells: &[u64], x: CellNo) -> Pins
-    ensures { λ r. ⌜ r ≡ pinsOf (cellAt (cellsOf (now (cells .entry))) x) ⌝ }
-{
-    pins_of(gates::cell_at(cells, x))
-}
-
 fn clear(marks: &mut [u8])
     ensures { λ _. ⌜ IsBlank (now (marks .exit)) ⌝ }
 {
@@ -76,7 +50,7 @@ fn look(cells: &[u64], marks: &[u8], x: CellNo) -> Next
     requires { ⌜ Closed (cellsOf (now cells)) × (length (cellsOf (now cells)) ≤ length (now marks)) ⌝ }
     ensures { λ r. ⌜ IsNext (cellsOf (now (cells .entry))) (now (marks .entry)) x r ⌝ }
 {
-    let Pins::Two(a, b) = pins_at(cells, x) else {
+    let Pins::Two(a, b) = cells::pins_at(cells, x) else {
         return Next::Clear;
     };
     let first = marks[a.number() as usize];
@@ -159,7 +133,7 @@ fn search(
 
 // The search from each cell in turn.
 fn place_all(cells: &[u64], marks: &mut [u8], stack: &mut [u16], order: &mut [u16]) -> Visit
-    requires { ⌜ Closed (cellsOf (now cells)) × Lent (cellsOf (now cells)) (now marks) (now stack)
+    requires { ⌜ Closed (cellsOf (now cells)) × WorkRoom (cellsOf (now cells)) (now marks) (now stack)
         × (length (cellsOf (now cells)) ≤ length (now order)) × IsBlank (now marks) ⌝ }
     ensures { λ r. ⌜ AllVisited (cellsOf (now (cells .entry))) (now (order .exit)) r ⌝ }
 {
@@ -192,11 +166,11 @@ fn note(marks: &mut [u8], stack: &mut [u16], top: usize, y: CellNo) -> usize
 
 // What the cell x needs is noted.
 fn expand(cells: &[u64], marks: &mut [u8], stack: &mut [u16], top: usize, x: CellNo) -> usize
-    requires { ⌜ Closed (cellsOf (now cells)) × Lent (cellsOf (now cells)) (now marks) (now stack)
+    requires { ⌜ Closed (cellsOf (now cells)) × WorkRoom (cellsOf (now cells)) (now marks) (now stack)
         × (top + zeros (length (cellsOf (now cells))) (now marks) ≤ length (cellsOf (now cells))) ⌝ }
     ensures { λ r. ⌜ Expanded (cellsOf (now (cells .entry))) (now (marks .entry)) (now (stack .entry)) top x (now (marks .exit)) (now (stack .exit)) r ⌝ }
 {
-    let Pins::Two(a, b) = pins_at(cells, x) else {
+    let Pins::Two(a, b) = cells::pins_at(cells, x) else {
         return top;
     };
     let t = note(marks, stack, top, a);
@@ -205,7 +179,7 @@ fn expand(cells: &[u64], marks: &mut [u8], stack: &mut [u16], top: usize, x: Cel
 
 // Whether the cell c reaches itself.
 fn on_cycle(cells: &[u64], marks: &mut [u8], stack: &mut [u16], c: CellNo) -> bool
-    requires { ⌜ Closed (cellsOf (now cells)) × Lent (cellsOf (now cells)) (now marks) (now stack) × IsBlank (now marks)
+    requires { ⌜ Closed (cellsOf (now cells)) × WorkRoom (cellsOf (now cells)) (now marks) (now stack) × IsBlank (now marks)
         × IsCell (cellsOf (now cells)) c ⌝ }
     ensures { λ r. ⌜ Decides (OnCycle (cellsOf (now (cells .entry))) c) r ⌝ }
 {
@@ -223,7 +197,7 @@ fn on_cycle(cells: &[u64], marks: &mut [u8], stack: &mut [u16], c: CellNo) -> bo
 
 // The lowest cell on a cycle, where there is one. Each cell below it is searched from: only a refusal pays for that.
 fn lowest(cells: &[u64], marks: &mut [u8], stack: &mut [u16]) -> CellNo
-    requires { ⌜ Closed (cellsOf (now cells)) × Lent (cellsOf (now cells)) (now marks) (now stack) × HasCycle (cellsOf (now cells)) ⌝ }
+    requires { ⌜ Closed (cellsOf (now cells)) × WorkRoom (cellsOf (now cells)) (now marks) (now stack) × HasCycle (cellsOf (now cells)) ⌝ }
     ensures { λ r. ⌜ Lowest (cellsOf (now (cells .entry))) r ⌝ }
 {
     let mut low: usize = 0;
@@ -243,8 +217,8 @@ pub fn order_cells(cells: &[u64], order: &mut [u16]) -> Ordering
     requires { ⌜ Orderable (cellsOf (now cells)) (now order) ⌝ }
     ensures { λ r. ⌜ Answers (cellsOf (now (cells .entry))) (now (order .exit)) r ⌝ }
 {
-    let mut marks = [0u8; 1024];
-    let mut stack = [0u16; 1024];
+    let mut marks = [0u8; limits::MAX_CELLS];
+    let mut stack = [0u16; limits::MAX_CELLS];
     match place_all(cells, &mut marks, &mut stack, order) {
         Visit::Placed(_) => Ordering::Found,
         Visit::Cyclic => Ordering::Cycle(lowest(cells, &mut marks, &mut stack)),

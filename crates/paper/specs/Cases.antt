@@ -7,7 +7,7 @@ use Rattle.number.specs.declared.CellNo.{CellNo}
 use Rattle.number.specs.Counts.{signalNo, stmtNo, ofStmt, cellNo, ofCell}
 use Rattle.number.specs.Refusals.{refusalNo}
 use Rattle.number.specs.declared.Refusal.the-variants.{Instant, Twice}
-use Rattle.bits.specs.Bits.{has, signalsIn}
+use Rattle.bits.specs.Bits.{has, signalsIn, width}
 use Rattle.sheet.specs.Stmt.{Stmt, size, localCount}
 use Rattle.sheet.specs.Read.{only, SheetOutcome, sheet, faulty, readSheet}
 use Rattle.sets.specs.declared.Found.{Found}
@@ -16,12 +16,14 @@ use Rattle.sets.specs.Faults.{instant, twice}
 use Rattle.sets.specs.Words.{wordOf}
 use Rattle.rules.specs.Rules.{Outcome}
 use Rattle.rules.specs.States.{tick, react, nextState, fits}
-use Rattle.gates.specs.declared.Cell.{Cell}
-use Rattle.gates.specs.declared.Cell.the-variants.{Low, High, Input, Or, And, Butnot, Register}
-use Rattle.gates.specs.Values.{registers, before, cellAt, value, operands, nextOf}
-use Rattle.builder.specs.Netlist.{sheetNetlist, netlist}
+use Rattle.cells.specs.declared.Cell.{Cell}
+use Rattle.cells.specs.declared.Cell.the-variants.{Low, High, Input, Gate, Register}
+use Rattle.cells.specs.declared.Gate.the-variants.{Or, And, Butnot}
+use Rattle.cells.specs.Values.{registers, before, value, operandsOf, nextOf}
+use Rattle.cells.specs.Cells.{cellAt}
+use Rattle.builder.specs.Netlist.{sheetNetlist, netlist, sheetFile}
 use Rattle.run.specs.Words.{outputsOf}
-use Rattle.files.specs.File.{sheetFile, fileBytes}
+use Rattle.files.specs.File.{fileBytes}
 use Rattle.files.specs.Read.{FileOutcome, netlist as file, faulty as noFile, readFile}
 
 -- what reading answers: "0 is acceptance, place 0, with statement .. counts", "a refusal's counts .. are 0"
@@ -73,7 +75,7 @@ unfolding react wordOf agreeing
 moments n t S [] = []
 moments n t S (m ∷ ms) =
     let o : Outcome = react (signalsIn (m .present)) (has S) t in
-    let next : ℕ = wordOf 64 (nextState o) in
+    let next : ℕ = wordOf width (nextState o) in
     record {
       event = m .event;
       present = m .present;
@@ -109,16 +111,16 @@ solving (suc k) j S cells v =
 
 -- the clocks of a netlist with I inputs and O outputs from the state S on
 unfoldable pub clocks : ℕ → ℕ → List Cell → ℕ → List Clocked → List Clocked
-unfolding solving operands wordOf
+unfolding solving operandsOf wordOf
 clocks I O cells S [] = []
 clocks I O cells S (c ∷ cs) =
     let v : ℕ = c .values in
-    let next : ℕ = wordOf 64 (nextOf (netsIn v) cells) in
+    let next : ℕ = wordOf width (nextOf (netsIn v) cells) in
     record {
       event = c .event;
       values = v;
       solves = solving (length cells) (c .event) S cells v;
-      outputs = wordOf 64 (λ s. outputsOf I O (netsIn v) (signalNo s));
+      outputs = wordOf width (λ s. outputsOf I O (netsIn v) (signalNo s));
       next = next;
     }
     ∷ clocks I O cells next cs
@@ -231,18 +233,18 @@ withFile s k =
 
 -- P1's cells, P5's, and those of the sheet of the trace
 abbrev p1Cells : List Cell
-p1Cells = Low ∷ (High ∷ (Register (cellNo 1) ∷ (Butnot (cellNo 1) (cellNo 2) ∷ [])))
+p1Cells = Low ∷ (High ∷ (Register (cellNo 1) ∷ (Gate Butnot (cellNo 1) (cellNo 2) ∷ [])))
 
 abbrev p5Cells : List Cell
 p5Cells =
-    Low ∷ (High ∷ (Or (cellNo 6) (cellNo 0) ∷ (Register (cellNo 1) ∷ (Butnot (cellNo 1) (cellNo 3)
-    ∷ (And (cellNo 4) (cellNo 2) ∷ (Butnot (cellNo 4) (cellNo 2) ∷ (Or (cellNo 5) (cellNo 6) ∷ [])))))))
+    Low ∷ (High ∷ (Gate Or (cellNo 6) (cellNo 0) ∷ (Register (cellNo 1) ∷ (Gate Butnot (cellNo 1) (cellNo 3)
+    ∷ (Gate And (cellNo 4) (cellNo 2) ∷ (Gate Butnot (cellNo 4) (cellNo 2) ∷ (Gate Or (cellNo 5) (cellNo 6) ∷ [])))))))
 
 abbrev traceCells : List Cell
 traceCells =
-    Low ∷ (High ∷ (Input (signalNo 1) ∷ (Or (cellNo 12) (cellNo 0) ∷ (Register (cellNo 1) ∷ (Butnot (cellNo 1) (cellNo 4)
-    ∷ (Or (cellNo 5) (cellNo 12) ∷ (Butnot (cellNo 1) (cellNo 2) ∷ (Register (cellNo 10) ∷ (And (cellNo 7) (cellNo 8)
-    ∷ (Or (cellNo 6) (cellNo 9) ∷ (And (cellNo 1) (cellNo 8) ∷ (And (cellNo 11) (cellNo 2) ∷ []))))))))))))
+    Low ∷ (High ∷ (Input (signalNo 1) ∷ (Gate Or (cellNo 12) (cellNo 0) ∷ (Register (cellNo 1) ∷ (Gate Butnot (cellNo 1) (cellNo 4)
+    ∷ (Gate Or (cellNo 5) (cellNo 12) ∷ (Gate Butnot (cellNo 1) (cellNo 2) ∷ (Register (cellNo 10) ∷ (Gate And (cellNo 7) (cellNo 8)
+    ∷ (Gate Or (cellNo 6) (cellNo 9) ∷ (Gate And (cellNo 1) (cellNo 8) ∷ (Gate And (cellNo 11) (cellNo 2) ∷ []))))))))))))
 
 -- the files of P4's second sheet, P10, P11, P12 and the sheet of the trace
 abbrev p4File : List ℕ

@@ -15,9 +15,11 @@ use Rattle.sheet.specs.declared.Unary.the-variants.{Loop, Watching, Trap, Signa
 use Rattle.sheet.specs.declared.Binary.the-variants.{Sequence, Present, Parallel}
 use Rattle.sheet.specs.Stmt.{Stmt, leaf, one, two}
 use Rattle.sets.specs.Static.{K, R}
-use Rattle.gates.specs.declared.Cell.{Cell}
-use Rattle.gates.specs.declared.Cell.the-variants.{Or, Register}
-use Rattle.gates.specs.Cells.{New, low, orAt, andAt, butnotAt, signalCell}
+use Rattle.cells.specs.declared.Cell.{Cell}
+use Rattle.cells.specs.declared.Gate.the-variants.{Or}
+use Rattle.cells.specs.declared.Cell.the-variants.{Gate, Register}
+use Rattle.cells.specs.Cells.{low, signalCell}
+use Rattle.gates.specs.Folding.{New, orAt, andAt, butnotAt}
 use Rattle.gates.specs.Rows.{code, only, withCode0, Row, orRow, trapRow, pairs, Highest, parallelRow, killOf}
 
 -- what a statement returns
@@ -74,7 +76,7 @@ buildSequence n p q =
 
 -- "loop: G = or(g)* ; p with go G; G's last operand is p's code 0, then 0 returned for it."
 unfoldable pub buildLoop : CellNo → Built → Built
-buildLoop g p = record { cells = Or g (code (p .codes) 0) ∷ p .cells; sel = p .sel; codes = withCode0 low (p .codes); lists = p .lists }
+buildLoop g p = record { cells = Gate Or g (code (p .codes) 0) ∷ p .cells; sel = p .sel; codes = withCode0 low (p .codes); lists = p .lists }
 
 -- "present: and(g,s), butnot(g,s); p, q; sel or; codes or'ed upward from 0.": x and y are the two gates, p's cells begin at n
 unfoldable pub buildPresent : ℕ → New → New → Built → Built → Built
@@ -103,7 +105,7 @@ buildParallel n i keep p q =
     let n₂ : ℕ = suc n + length (p .cells) + length (q .cells) in
     let s : New = orAt n₂ (p .sel) (q .sel) in
     let c : Highest = parallelRow (past n₂ s) keep (pairs (p .codes) (q .codes)) in
-    record { cells = Or i (killOf c) ∷ (p .cells ++ (q .cells ++ (s .cells ++ c .cells))); sel = s .net; codes = c .nets; lists = q .lists }
+    record { cells = Gate Or i (killOf c) ∷ (p .cells ++ (q .cells ++ (s .cells ++ c .cells))); sel = s .net; codes = c .nets; lists = q .lists }
 
 -- "trap: code 0 = or(p's 0, p's 2); 1 stays; j is p's j+1.": p's cells begin at n
 unfoldable pub buildTrap : ℕ → Built → Built

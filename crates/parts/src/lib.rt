@@ -1,6 +1,8 @@
 // What a statement makes before, between and after its parts; a leaf makes all of it at once. The cells go into a lent column. Their count goes
 // on past the column's end, where nothing is stored.
-use gates::Cell;
+use cells::Cell;
+use cells::Gate;
+use limits::MAX_CODES;
 use number::CellNo;
 use number::SignalNo;
 use sheet::Binary;
@@ -12,23 +14,25 @@ ghost use Prim.Native.Nat.{ℕ, _+_, _<_};
 ghost use lib.ListN.{length};
 ghost use Rattle.number.specs.Counts.{ofSignal};
 ghost use Rattle.bits.specs.Bits.{has};
+ghost use Rattle.limits.specs.Limits.{maxSignals, maxCodes};
 ghost use Rattle.sheet.specs.Stmt.{leaf};
 ghost use Rattle.sheet.specs.declared.Binary.the-variants.{Parallel};
 ghost use Rattle.sets.specs.Words.{LowLeaf};
-ghost use Rattle.gates.specs.Cells.{signalCell};
+ghost use Rattle.cells.specs.Cells.{signalCell};
+ghost use Rattle.gates.specs.Store.{parallelCells};
 ghost use Rattle.parts.specs.Equations.{joined, build, buildHalt, buildEmit};
-ghost use Rattle.parts.specs.Contract.{nets, Builds, plain, Opens, openOne, openTwo, goOf, ClosesOne, ClosesTwo, Joins};
-ghost use Rattle.parts.specs.Contract.{LeafNamed, UnaryNamed, BinaryNamed};
+ghost use Rattle.parts.specs.Contract.{nets, ownCells, Builds, plain, Opens, openOne, openTwo, goOf, ClosesOne, ClosesTwo, Joins, LeafNamed, UnaryNamed};
+ghost use Rattle.parts.specs.Contract.{BinaryNamed};
 
 // The next number after a statement's cells, its sel and its codes.
-pub struct Built {
+pub struct Returned {
     pub count: u16,
     pub sel: CellNo,
-    pub codes: [CellNo; 10],
+    pub codes: [CellNo; MAX_CODES],
 }
 
 pub fn signal_cell(s: SignalNo) -> CellNo
-    requires { ⌜ ofSignal s < 64 ⌝ }
+    requires { ⌜ ofSignal s < maxSignals ⌝ }
     ensures { λ r. ⌜ r ≡ signalCell s ⌝ }
 {
     CellNo::new(s.number() + 1)
@@ -41,36 +45,36 @@ fn halt_cells(
     g: CellNo,
     r: CellNo,
     kill: CellNo,
-) -> Built
-    requires { ⌜ count + 32 < 65536 ⌝ }
+) -> Returned
+    requires { ⌜ count + ownCells < 65536 ⌝ }
     ensures { λ b. ⌜ Builds (buildHalt count g r kill (nets (now (lists .entry)))) (now (cells .entry)) (now (cells .exit)) (now (lists .entry))
-        count (b .count) (b .sel) (b .codes) ⌝ }
+        count b ⌝ }
 {
-    let h = gates::push(cells, count, Cell::Register(gates::low()));
+    let h = gates::push(cells, count, Cell::Register(cells::low()));
     let x = gates::and(cells, h.count, r, h.cell);
     let v = gates::or(cells, x.count, g, x.cell);
     let d = gates::butnot(cells, v.count, v.cell, kill);
     let operand = d.cell;
-    gates::fill(cells, h.cell, Cell::Register(operand));
+    cells::fill(cells, h.cell, Cell::Register(operand));
     let sel = h.cell;
-    Built {
+    Returned {
         count: d.count,
         sel,
         codes: gates::only(1, v.cell),
     }
 }
 
-fn emit_cells(cells: &mut [u64], lists: &mut [u16], s: SignalNo, count: u16, g: CellNo) -> Built
-    requires { ⌜ (count + 32 < 65536) × (ofSignal s < length (now lists)) ⌝ }
+fn emit_cells(cells: &mut [u64], lists: &mut [u16], s: SignalNo, count: u16, g: CellNo) -> Returned
+    requires { ⌜ (count + ownCells < 65536) × (ofSignal s < length (now lists)) ⌝ }
     ensures { λ b. ⌜ Builds (buildEmit s count g (nets (now (lists .entry)))) (now (cells .entry)) (now (cells .exit)) (now (lists .exit))
-        count (b .count) (b .sel) (b .codes) ⌝ }
+        count b ⌝ }
 {
     let at = s.number() as usize;
     let w = gates::or(cells, count, CellNo::new(lists[at]), g);
     lists[at] = w.cell.number();
-    Built {
+    Returned {
         count: w.count,
-        sel: gates::low(),
+        sel: cells::low(),
         codes: gates::only(0, g),
     }
 }
@@ -84,29 +88,29 @@ pub fn leaf_cells(
     g: CellNo,
     r: CellNo,
     kill: CellNo,
-) -> Built
-    requires { ⌜ (count + 32 < 65536) × (length (now lists) ≡ 64) × LowLeaf l × LeafNamed l ⌝ }
+) -> Returned
+    requires { ⌜ (count + ownCells < 65536) × (length (now lists) ≡ maxSignals) × LowLeaf l × LeafNamed l ⌝ }
     ensures { λ b. ⌜ Builds (build (leaf l) count g r kill (nets (now (lists .entry)))) (now (cells .entry)) (now (cells .exit)) (now (lists .exit))
-        count (b .count) (b .sel) (b .codes) ⌝ }
+        count b ⌝ }
 {
     match l {
-        Leaf::Nothing => Built {
+        Leaf::Nothing => Returned {
             count,
-            sel: gates::low(),
+            sel: cells::low(),
             codes: gates::only(0, g),
         },
         Leaf::Halt(_) => halt_cells(cells, lists, count, g, r, kill),
         Leaf::Emit(s) => emit_cells(cells, lists, s, count, g),
-        Leaf::Exit(k) => Built {
+        Leaf::Exit(k) => Returned {
             count,
-            sel: gates::low(),
+            sel: cells::low(),
             codes: gates::only(k as usize, g),
         },
     }
 }
 
 // The next number, and what the parts of a statement get: go, the second part's go, resume, kill.
-pub struct Opening {
+pub struct Opened {
     pub count: u16,
     pub go: CellNo,
     pub other: CellNo,
@@ -115,10 +119,10 @@ pub struct Opening {
 }
 
 // "A child gets g, r and i unless another is named."
-fn plain(count: u16, g: CellNo, r: CellNo, kill: CellNo) -> Opening
-    ensures { λ o. ⌜ ((l : List ℕ) → Opens (plain g r kill) l l count (o .count) (o .go) (o .other) (o .res) (o .kill)) ⌝ }
+fn plain(count: u16, g: CellNo, r: CellNo, kill: CellNo) -> Opened
+    ensures { λ o. ⌜ ((l : List ℕ) → Opens (plain g r kill) l l count o) ⌝ }
 {
-    Opening {
+    Opened {
         count,
         go: g,
         other: g,
@@ -135,15 +139,15 @@ pub fn open_one(
     g: CellNo,
     r: CellNo,
     kill: CellNo,
-) -> Opening
-    requires { ⌜ (count + 32 < 65536) × UnaryNamed u ⌝ }
-    ensures { λ o. ⌜ Opens (openOne u count g r kill) (now (cells .entry)) (now (cells .exit)) count (o .count) (o .go) (o .other) (o .res) (o .kill) ⌝ }
+) -> Opened
+    requires { ⌜ (count + ownCells < 65536) × UnaryNamed u ⌝ }
+    ensures { λ o. ⌜ Opens (openOne u count g r kill) (now (cells .entry)) (now (cells .exit)) count o ⌝ }
 {
     match u {
         Unary::Loop => {
-            let h = gates::push(cells, count, Cell::Or(g, gates::low()));
+            let h = gates::push(cells, count, Cell::Gate(Gate::Or, g, cells::low()));
             let go = h.cell;
-            Opening {
+            Opened {
                 count: h.count,
                 go,
                 other: g,
@@ -154,7 +158,7 @@ pub fn open_one(
         Unary::Watching(s) => {
             let a = gates::butnot(cells, count, r, signal_cell(s));
             let res = a.cell;
-            Opening {
+            Opened {
                 count: a.count,
                 go: g,
                 other: g,
@@ -175,9 +179,9 @@ pub fn open_two(
     g: CellNo,
     r: CellNo,
     kill: CellNo,
-) -> Opening
-    requires { ⌜ (count + 32 < 65536) × BinaryNamed b ⌝ }
-    ensures { λ o. ⌜ Opens (openTwo b count g r kill) (now (cells .entry)) (now (cells .exit)) count (o .count) (o .go) (o .other) (o .res) (o .kill) ⌝ }
+) -> Opened
+    requires { ⌜ (count + ownCells < 65536) × BinaryNamed b ⌝ }
+    ensures { λ o. ⌜ Opens (openTwo b count g r kill) (now (cells .entry)) (now (cells .exit)) count o ⌝ }
 {
     match b {
         Binary::Sequence => plain(count, g, r, kill),
@@ -186,7 +190,7 @@ pub fn open_two(
             let y = gates::butnot(cells, x.count, g, signal_cell(s));
             let go = x.cell;
             let other = y.cell;
-            Opening {
+            Opened {
                 count: y.count,
                 go,
                 other,
@@ -195,9 +199,9 @@ pub fn open_two(
             }
         }
         Binary::Parallel => {
-            let q = gates::push(cells, count, Cell::Or(kill, gates::low()));
+            let q = gates::push(cells, count, Cell::Gate(Gate::Or, kill, cells::low()));
             let own = q.cell;
-            Opening {
+            Opened {
                 count: q.count,
                 go: g,
                 other: g,
@@ -209,7 +213,7 @@ pub fn open_two(
 }
 
 // The second part's go; c has the first one's codes.
-pub fn go_of(b: Binary, other: CellNo, c: [CellNo; 10]) -> CellNo
+pub fn go_of(b: Binary, other: CellNo, c: [CellNo; MAX_CODES]) -> CellNo
     ensures { λ r. ⌜ r ≡ goOf b other c ⌝ }
 {
     match b {
@@ -220,26 +224,33 @@ pub fn go_of(b: Binary, other: CellNo, c: [CellNo; 10]) -> CellNo
 }
 
 // What a statement makes after its one part, p.
-pub fn close_one(cells: &mut [u64], u: Unary, count: u16, g: CellNo, r: CellNo, p: Built) -> Built
+pub fn close_one(
+    cells: &mut [u64],
+    u: Unary,
+    count: u16,
+    g: CellNo,
+    r: CellNo,
+    p: Returned,
+) -> Returned
     requires { ⌜ (p .count + 3 < 65536) × UnaryNamed u ⌝ }
-    ensures { λ b. ⌜ ClosesOne u count g r (now (cells .entry)) (now (cells .exit)) (p .count) (p .sel) (p .codes) (b .count) (b .sel) (b .codes) ⌝ }
+    ensures { λ b. ⌜ ClosesOne u count g r (now (cells .entry)) (now (cells .exit)) p b ⌝ }
 {
     let c = p.codes;
     let sel = p.sel;
     match u {
         Unary::Loop => {
-            gates::fill(cells, CellNo::new(count), Cell::Or(g, c[0]));
-            Built {
+            cells::fill(cells, CellNo::new(count), Cell::Gate(Gate::Or, g, c[0]));
+            Returned {
                 count: p.count,
                 sel,
-                codes: gates::with_code0(gates::low(), c),
+                codes: gates::with_code0(cells::low(), c),
             }
         }
         Unary::Watching(s) => {
             let x = gates::and(cells, p.count, r, sel);
             let y = gates::and(cells, x.count, x.cell, signal_cell(s));
             let o = gates::or(cells, y.count, c[0], y.cell);
-            Built {
+            Returned {
                 count: o.count,
                 sel,
                 codes: gates::with_code0(o.cell, c),
@@ -247,7 +258,7 @@ pub fn close_one(cells: &mut [u64], u: Unary, count: u16, g: CellNo, r: CellNo, 
         }
         Unary::Trap => {
             let o = gates::or(cells, p.count, c[0], c[2]);
-            Built {
+            Returned {
                 count: o.count,
                 sel,
                 codes: gates::trap_row(o.cell, c),
@@ -263,17 +274,17 @@ fn join(
     count: u16,
     p: CellNo,
     q: CellNo,
-    a: [CellNo; 10],
-    b: [CellNo; 10],
-) -> Built
-    requires { ⌜ count + 11 < 65536 ⌝ }
-    ensures { λ r. ⌜ Joins (joined count p q a b) (now (cells .entry)) (now (cells .exit)) count (r .count) (r .sel) (r .codes) ⌝ }
+    a: [CellNo; MAX_CODES],
+    b: [CellNo; MAX_CODES],
+) -> Returned
+    requires { ⌜ count + (1 + maxCodes) < 65536 ⌝ }
+    ensures { λ r. ⌜ Joins (joined count p q a b) (now (cells .entry)) (now (cells .exit)) count r ⌝ }
 {
     let s = gates::or(cells, count, p, q);
     let c = gates::or_row(cells, s.count, a, b);
     let sel = s.cell;
     let codes = c.nets;
-    Built {
+    Returned {
         count: c.count,
         sel,
         codes,
@@ -287,22 +298,21 @@ fn close_parallel(
     g: CellNo,
     kill: CellNo,
     keep: u64,
-    p: Built,
-    q: Built,
-) -> Built
-    requires { ⌜ q .count + 30 < 65536 ⌝ }
-    ensures { λ b. ⌜ ClosesTwo Parallel (has keep) count g kill (now (cells .entry)) (now (cells .exit)) (p .count) (p .sel) (p .codes)
-        (q .count) (q .sel) (q .codes) (b .count) (b .sel) (b .codes) ⌝ }
+    p: Returned,
+    q: Returned,
+) -> Returned
+    requires { ⌜ q .count + (1 + parallelCells) < 65536 ⌝ }
+    ensures { λ b. ⌜ ClosesTwo Parallel (has keep) (record { start = count; go = g; kill = kill }) (now (cells .entry)) (now (cells .exit)) p q b ⌝ }
 {
     let a = p.codes;
     let c = q.codes;
     let s = gates::or(cells, q.count, p.sel, q.sel);
     let h = gates::parallel_row(cells, s.count, a, c, keep);
     let x = h.kill;
-    gates::fill(cells, CellNo::new(count), Cell::Or(kill, x));
+    cells::fill(cells, CellNo::new(count), Cell::Gate(Gate::Or, kill, x));
     let sel = s.cell;
     let codes = h.nets;
-    Built {
+    Returned {
         count: h.count,
         sel,
         codes,
@@ -317,12 +327,11 @@ pub fn close_two(
     g: CellNo,
     kill: CellNo,
     keep: u64,
-    p: Built,
-    q: Built,
-) -> Built
-    requires { ⌜ q .count + 30 < 65536 ⌝ }
-    ensures { λ r. ⌜ ClosesTwo b (has keep) count g kill (now (cells .entry)) (now (cells .exit)) (p .count) (p .sel) (p .codes)
-        (q .count) (q .sel) (q .codes) (r .count) (r .sel) (r .codes) ⌝ }
+    p: Returned,
+    q: Returned,
+) -> Returned
+    requires { ⌜ q .count + (1 + parallelCells) < 65536 ⌝ }
+    ensures { λ r. ⌜ ClosesTwo b (has keep) (record { start = count; go = g; kill = kill }) (now (cells .entry)) (now (cells .exit)) p q r ⌝ }
 {
     let a = p.codes;
     let c = q.codes;
@@ -332,7 +341,7 @@ pub fn close_two(
             q.count,
             p.sel,
             q.sel,
-            gates::with_code0(gates::low(), a),
+            gates::with_code0(cells::low(), a),
             c,
         ),
         Binary::Present(_) => join(cells, q.count, p.sel, q.sel, a, c),

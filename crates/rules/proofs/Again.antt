@@ -21,19 +21,18 @@ use Rattle.sets.specs.declared.Found.the-variants.{Clear}
 use Rattle.sets.specs.Codes.{same, empty, join, larger, caught}
 use Rattle.sets.specs.Static.{K, R}
 use Rattle.sets.specs.Faults.{instant}
-use Rattle.sets.proofs.Bools.{taut}
+use Rattle.number.proofs.Bools.{taut, and-both, and-right, or-left, or-right, or-none}
+use Rattle.limits.specs.Limits.{maxHalts}
+use Rattle.bits.specs.Bits.{boot, haltBit, noBits}
+use Rattle.bits.proofs.NoBits.{no-bits, bit-off}
 use Rattle.rules.specs.Rules.{Signals, Halts, Outcome, idle, onlyHalt, thenOn, followed, kept, start, active, resume}
-use Rattle.rules.specs.States.{State, boot, haltsOf, fresh, react, nextState, noBits, mayEnd, apart, fits, atRest}
+use Rattle.rules.specs.States.{State, haltsOf, fresh, react, nextState, noHaltsFrom, mayEnd, apart, fits, atRest}
 use Rattle.rules.proofs.Codes.{NoInstant, no-instant, start-in-K, resume-in-R, sequence-left, sequence-right, parallel-left, parallel-right}
-use Rattle.rules.proofs.Codes.{right-ends, left-ends, or-left, or-right}
-use Rattle.rules.proofs.NoBits.{no-bits, bit-off}
+use Rattle.rules.proofs.Codes.{right-ends, left-ends}
 
 -- H has those of t's halts that A has
 abbrev pub On : Stmt → Halts → Halts → Type 0
 On t H A = (h : HaltNo) → inHalts t h ≡ true → H h ≡ A h
-
-or-none : (a b : Bool) → a ≡ false → b ≡ false → (a || b) ≡ false
-or-none = taut 2 2 _ _ _ tt
 
 module _ (b : Binary) (p q : Stmt) (H A : Halts) where
   pub on-left : On (two b p q) H A → On p H A
@@ -255,7 +254,8 @@ module _ (p q : Stmt) (disjoint : Disjoint p q) (A B : Halts) where
       onp : (H : Halts) → On (two Parallel p q) H (join A B) → On p H A
       onp H f h e =
           on-left Parallel p q H (join A B) f h e
-          ∙ drop-right (A h) (B h) (off-side (B h) (inHalts q h) (inHalts p h) (gq .own h) (swap (inHalts p h) (inHalts q h) (disjoint h)) e)
+          ∙ drop-right (A h) (B h) (off-side (B h) (inHalts q h) (inHalts p h) (gq .own h)
+          (swap (inHalts p h) (inHalts q h) (disjoint h)) e)
 
       onq : (H : Halts) → On (two Parallel p q) H (join A B) → On q H B
       onq H f h e =
@@ -350,7 +350,8 @@ resume-good d E H a (one Loop p) x w n f h =
 resume-good d E H a (one (Watching s) p) x w n f h =
     one-good (Watching s) p _ _ _ refl
     (pick-good p (E s) idle (resume E H p) (λ e. idle-good p 0 refl) (λ e. resume-good d E H a p (x .1) w n f h))
-resume-good d E H a (one Trap p) x w n f h = one-good Trap p _ _ _ (caught-one ((resume E H p) .code)) (resume-good (d + 1) E H a p (x .1) w n f h)
+resume-good d E H a (one Trap p) x w n f h =
+    one-good Trap p _ _ _ (caught-one ((resume E H p) .code)) (resume-good (d + 1) E H a p (x .1) w n f h)
 resume-good d E H a (one (Signal s) p) x w n f h = one-good (Signal s) p _ _ _ refl (resume-good d E H a p (x .1) w n f h)
 resume-good d E H a (two Sequence p q) x w n f h =
     let disjoint : Disjoint p q = sides-disjoint a p q (n .0) (n .1) in
@@ -363,7 +364,8 @@ resume-good d E H a (two Sequence p q) x w n f h =
 resume-good d E H a (two (Present s) p q) x w n f h =
     chosen-good p q s (sides-disjoint a p q (n .0) (n .1)) (active H p) (resume E H p) (resume E H q)
     (λ e. resume-good d E H a p (x .0) (w .0) (n .0) (sequence-left H p q f) e)
-    (λ e. resume-good d E H (haltsOn a (haltCount p)) q (x .1) (w .1) (n .1) (sequence-right H p q f) (only-right (active H p) (active H q) h e))
+    (λ e. resume-good d E H (haltsOn a (haltCount p)) q (x .1) (w .1) (n .1) (sequence-right H p q f)
+    (only-right (active H p) (active H q) h e))
 resume-good d E H a (two Parallel p q) x w n f h =
     let fp : apart H p ≡ true = parallel-left H p q f in
     let fq : apart H q ≡ true = parallel-right H p q f in
@@ -375,7 +377,8 @@ resume-good d E H a (two Parallel p q) x w n f h =
     (λ e. resume-good d E H (haltsOn a (haltCount p)) q (x .1) (w .1) (n .1) fq e) (λ e. idle-good q 0 refl))
 
 -- bits of the next state past the halts are off
-next-off : (t : Stmt) (o : Outcome) → GoodRun t o → Numbered (haltNo 0) t → (j : ℕ) → 1 + haltCount t ≤ j → nextState o j ≡ false
+next-off : (t : Stmt) (o : Outcome) → GoodRun t o → Numbered (haltNo 0) t → (j : ℕ) → haltBit (haltNo (haltCount t)) ≤ j
+    → nextState o j ≡ false
 next-off t o g n zero l = absurd (omega arith)
 next-off t o g n (suc h) l = go (inHalts t (haltNo h)) refl (g .own (haltNo h))
   where
@@ -387,25 +390,19 @@ next-off t o g n (suc h) l = go (inHalts t (haltNo h)) refl (g .own (haltNo h))
         off = taut 1 1 _ _ _ tt
 
 pub next-halts : (o : Outcome) (h : HaltNo) → haltsOf (nextState o) h ≡ o .halts h
-next-halts o h = let bit : 1 + ofHalt h ≡ suc (ofHalt h) = omega arith in ap (nextState o) bit
-
-both : (a b : Bool) → a ≡ true → b ≡ true → (a && b) ≡ true
-both = taut 2 2 _ _ _ tt
+next-halts o h = let bit : haltBit h ≡ suc (ofHalt h) = omega arith in ap (nextState o) bit
 
 good-fits : (t : Stmt) (o : Outcome) → GoodRun t o → Numbered (haltNo 0) t → fits (nextState o) t ≡ true
 unfolding fits pick
 good-fits t o g n =
-    both (noBits (63 - haltCount t) (1 + haltCount t) (nextState o)) (apart (haltsOf (nextState o)) t)
-    (no-bits (63 - haltCount t) (1 + haltCount t) (nextState o) (λ j l r. next-off t o g n j l))
+    and-both (noHaltsFrom (haltCount t) (nextState o)) (apart (haltsOf (nextState o)) t)
+    (no-bits (maxHalts - haltCount t) (haltBit (haltNo (haltCount t))) (nextState o) (λ j l r. next-off t o g n j l))
     (g .apart′ (haltsOf (nextState o)) (λ h e. next-halts o h))
-
-second-of : (a b : Bool) → (a && b) ≡ true → b ≡ true
-second-of = taut 2 1 _ _ _ tt
 
 -- a state that fits and has boot on
 pub booted-apart : (S : State) (t : Stmt) → fits S t ≡ true → S boot ≡ true → apart (haltsOf S) t ≡ true
 unfolding fits pick
-booted-apart S t f on = second-of (noBits (63 - haltCount t) (1 + haltCount t) S) (apart (haltsOf S) t) (rw on at f)
+booted-apart S t f on = and-right (noHaltsFrom (haltCount t) S) (apart (haltsOf S) t) (rw on at f)
 
 -- A sheet that was read and that INSTANT does not refuse: what a reaction returns fits again.
 pub fits-again : {i o : ℕ} {t : Stmt} → Proper i o t → instant (stmtNo 0) t ≡ Clear
@@ -433,7 +430,7 @@ module _ {i o : ℕ} {t : Stmt} (proper : Proper i o t) (S : State) (rest : atRe
   unfolding atRest
   halts-off h e =
       let inside = halt-within (haltNo 0) t (proper-numbered proper) h e in
-      bit-off 63 1 S rest (1 + ofHalt h) (omega arith) (omega (arith, inside .1, proper .halts))
+      bit-off maxHalts (haltBit (haltNo 0)) S rest (haltBit h) (omega arith) (omega (arith, inside .1, proper .halts))
 
   -- none of its halts is set, and nothing is to be kept apart
   pub rest-inactive : active (haltsOf S) t ≡ false
@@ -449,15 +446,15 @@ module _ {i o : ℕ} {t : Stmt} (proper : Proper i o t) (S : State) (rest : atRe
   pub rest-fits : S boot ≡ true → fits S t ≡ true
   unfolding fits pick atRest
   rest-fits on =
-      rw on
-      (both (noBits (63 - haltCount t) (1 + haltCount t) S) (apart (haltsOf S) t)
-      (no-bits (63 - haltCount t) (1 + haltCount t) S (λ j l r. bit-off 63 1 S rest j (omega arith) (omega (arith, proper .halts))))
-      rest-apart)
+      let from : ℕ = haltBit (haltNo (haltCount t)) in
+      let off : (j : ℕ) → from ≤ j → j < from + (maxHalts - haltCount t) → S j ≡ false =
+      λ j l r. bit-off maxHalts (haltBit (haltNo 0)) S rest j (omega arith) (omega (arith, proper .halts)) in
+      rw on (and-both (noHaltsFrom (haltCount t) S) (apart (haltsOf S) t) (no-bits (maxHalts - haltCount t) from S off) rest-apart)
 
   pub rest-stays : S boot ≡ true → (E : Signals) → atRest (nextState (react E S t)) ≡ true
   unfolding atRest
-  rest-stays on E = rw (rest-idle on E) (no-bits 63 1 (nextState idle) off)
+  rest-stays on E = rw (rest-idle on E) (no-bits maxHalts (haltBit (haltNo 0)) (nextState idle) off)
     where
-      off : (j : ℕ) → 1 ≤ j → j < 1 + 63 → nextState idle j ≡ false
+      off : (j : ℕ) → haltBit (haltNo 0) ≤ j → j < haltBit (haltNo 0) + maxHalts → nextState idle j ≡ false
       off zero l r = absurd (omega arith)
       off (suc j) l r = refl

@@ -18,7 +18,7 @@ use Rattle.sets.specs.Static.{K, R, hasHalts}
 use Rattle.sets.specs.Faults.{orElse, instant}
 use Rattle.rules.specs.Rules.{Signals, Halts, Outcome, idle, thenOn, followed, start, active, resume}
 use Rattle.rules.specs.States.{mayEnd, apart}
-use Rattle.sets.proofs.Bools.{taut}
+use Rattle.number.proofs.Bools.{taut, or-left, or-right, and-both}
 
 -- "INSTANT: some loop has 0 in K(p)": no loop has
 unfoldable pub NoInstant : Stmt → Type 0
@@ -67,17 +67,9 @@ pub same-self : (k : ℕ) → same k k ≡ true
 same-self zero = refl
 same-self (suc k) = same-self k
 
-pub or-left : (a b : Bool) → a ≡ true → (a || b) ≡ true
-or-left = taut 2 1 _ _ _ tt
-
-pub or-right : (a b : Bool) → b ≡ true → (a || b) ≡ true
-or-right = taut 2 1 _ _ _ tt
-
-and-both : (a b : Bool) → a ≡ true → b ≡ true → (a && b) ≡ true
-and-both = taut 2 2 _ _ _ tt
-
 -- What is done with two codes, done with sets that have them.
-replaced-on : (A B : Codes) (k : ℕ) (x y : Outcome) → A k ≡ true → x .code ≡ k → B (y .code) ≡ true → replaced A B ((thenOn k x y) .code) ≡ true
+replaced-on : (A B : Codes) (k : ℕ) (x y : Outcome) → A k ≡ true → x .code ≡ k → B (y .code) ≡ true
+    → replaced A B ((thenOn k x y) .code) ≡ true
 replaced-on A B zero x y a e b = go (y .code) b
   where
     go : (m : ℕ) → B m ≡ true → replaced A B m ≡ true
@@ -99,7 +91,8 @@ maxima-in : (A B : Codes) (a b : ℕ) → A a ≡ true → B b ≡ true → maxi
 maxima-in A B zero b p q = rw (q, upto-zero A b p, or-true)
 maxima-in A B (suc a) zero p q = rw (p, q)
 maxima-in A B (suc a) (suc b) p q =
-    maxima-on (A (suc (larger a b))) (upto (λ x. B (suc x)) (larger a b)) (B (suc (larger a b))) (upto (λ x. A (suc x)) (larger a b)) (B 0) (A 0)
+    maxima-on (A (suc (larger a b))) (upto (λ x. B (suc x)) (larger a b)) (B (suc (larger a b))) (upto (λ x. A (suc x)) (larger a b))
+    (B 0) (A 0)
     (maxima-in (λ x. A (suc x)) (λ x. B (suc x)) a b p q)
 
 pub caught-in : (A : Codes) (a : ℕ) → A a ≡ true → caughtCodes A (caught a) ≡ true
@@ -228,7 +221,8 @@ active-halts H (leaf (Exit k)) h = h
 active-halts H (one u p) h = active-halts H p h
 active-halts H (two b p q) h = halts-both (active H p) (active H q) (hasHalts p) (hasHalts q) (active-halts H p) (active-halts H q) h
 
-pub resume-in-R : (E : Signals) (H : Halts) (t : Stmt) → NoInstant t → apart H t ≡ true → active H t ≡ true → R t ((resume E H t) .code) ≡ true
+pub resume-in-R : (E : Signals) (H : Halts) (t : Stmt) → NoInstant t → apart H t ≡ true → active H t ≡ true
+    → R t ((resume E H t) .code) ≡ true
 unfolding K R start resume active NoInstant apart
 resume-in-R E H (leaf Nothing) w f h = absurd (false≢true h)
 resume-in-R E H (leaf (Halt k)) w f h = refl

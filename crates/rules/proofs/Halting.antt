@@ -7,6 +7,8 @@ use borrow.Author.Tests.{eq-eqb}
 use Rattle.number.specs.declared.HaltNo.{HaltNo}
 use Rattle.number.specs.Counts.{ofHalt}
 use Rattle.number.specs.Number.{pick}
+use Rattle.number.proofs.Bools.{or-left, or-right}
+use Rattle.bits.specs.Bits.{boot}
 use Rattle.sheet.specs.declared.Leaf.the-variants.{Nothing, Halt, Emit, Exit}
 use Rattle.sheet.specs.declared.Unary.the-variants.{Loop, Watching, Trap, Signal}
 use Rattle.sheet.specs.declared.Binary.the-variants.{Sequence, Present, Parallel}
@@ -15,7 +17,6 @@ use Rattle.sheet.proofs.Notions.{Exits}
 use Rattle.sets.specs.Codes.{empty, join, larger, caught}
 use Rattle.rules.specs.Rules.{Signals, Halts, Outcome, idle, onlyHalt, thenOn, followed, kept, trapped, start, active, resume}
 use Rattle.rules.specs.States.{State, haltsOf, react}
-use Rattle.rules.proofs.Codes.{or-left, or-right}
 
 -- a halt of the set H
 pub record Halted (H : Halts) : Type 0 where
@@ -108,7 +109,8 @@ start-halting d E (one (Watching s) p) x = start-halting d E p (x .1)
 start-halting d E (one Trap p) x = trapped-halting (start E p) (start-halting (d + 1) E p (x .1))
 start-halting d E (one (Signal s) p) x = start-halting d E p (x .1)
 start-halting d E (two Sequence p q) x = followed-halting (start E p) (start E q) (start-halting d E p (x .0)) (start-halting d E q (x .1))
-start-halting d E (two (Present s) p q) x = pick-halting (E s) (start E p) (start E q) (start-halting d E p (x .0)) (start-halting d E q (x .1))
+start-halting d E (two (Present s) p q) x =
+    pick-halting (E s) (start E p) (start E q) (start-halting d E p (x .0)) (start-halting d E q (x .1))
 start-halting d E (two Parallel p q) x = beside-halting _ _ _ _ (start-halting d E p (x .0)) (start-halting d E q (x .1))
 
 pub resume-halting : (d : ℕ) (E : Signals) (H : Halts) (t : Stmt) → Exits d t → HaltsWithOne (resume E H t)
@@ -136,7 +138,7 @@ resume-halting d E H (two Parallel p q) x =
 pub react-halting : (d : ℕ) (E : Signals) (S : State) (t : Stmt) → Exits d t → HaltsWithOne (react E S t)
 unfolding react
 react-halting d E S t x =
-    pick-halting (S 0) (pick (active (haltsOf S) t) (resume E (haltsOf S) t) idle) (start E t)
+    pick-halting (S boot) (pick (active (haltsOf S) t) (resume E (haltsOf S) t) idle) (start E t)
     (pick-halting (active (haltsOf S) t) (resume E (haltsOf S) t) idle (resume-halting d E (haltsOf S) t x) idle-halting)
     (start-halting d E t x)
 
@@ -207,6 +209,6 @@ resume-code d E H (two Parallel p q) x =
 pub react-code : (d : ℕ) (E : Signals) (S : State) (t : Stmt) → Exits d t → (react E S t) .code ≤ 1 + d
 unfolding react
 react-code d E S t x =
-    pick-few d (S 0) (pick (active (haltsOf S) t) (resume E (haltsOf S) t) idle) (start E t)
+    pick-few d (S boot) (pick (active (haltsOf S) t) (resume E (haltsOf S) t) idle) (start E t)
     (pick-few d (active (haltsOf S) t) (resume E (haltsOf S) t) idle (resume-code d E (haltsOf S) t x) (omega arith))
     (start-code d E t x)

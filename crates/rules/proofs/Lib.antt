@@ -3,7 +3,6 @@ pub mod Codes
 pub mod Fitting
 pub mod Halting
 pub mod Meanings
-pub mod NoBits
 pub mod Own
 pub mod Resumes
 pub mod Walks

@@ -9,6 +9,8 @@ use Rattle.number.specs.declared.SignalNo.{SignalNo}
 use Rattle.number.specs.declared.HaltNo.{HaltNo}
 use Rattle.number.specs.Counts.{ofSignal, ofHalt}
 use Rattle.number.specs.Number.{pick}
+use Rattle.number.proofs.Bools.{or-left, or-right, or-cases}
+use Rattle.bits.specs.Bits.{boot}
 use Rattle.sheet.specs.declared.Leaf.the-variants.{Nothing, Halt, Emit, Exit}
 use Rattle.sheet.specs.declared.Unary.the-variants.{Loop, Watching, Trap, Signal}
 use Rattle.sheet.specs.declared.Binary.the-variants.{Sequence, Present, Parallel}
@@ -17,12 +19,7 @@ use Rattle.sheet.specs.Read.{only}
 use Rattle.sheet.proofs.Notions.{Scoped, Numbered, inHalts, halt-within}
 use Rattle.sets.specs.Codes.{join, larger}
 use Rattle.rules.specs.Rules.{Signals, Halts, Outcome, idle, thenOn, followed, kept, beside, trapped, start, active, resume}
-use Rattle.rules.specs.States.{State, boot, haltsOf, react}
-use Rattle.rules.proofs.Codes.{or-left, or-right}
-
-pub or-cases : {A : Type 0} (a b : Bool) → (a ≡ true → A) → (b ≡ true → A) → (a || b) ≡ true → A
-or-cases true b f g e = f refl
-or-cases false b f g e = g e
+use Rattle.rules.specs.States.{State, haltsOf, react}
 
 -- A claim on what is emitted, or kept: it holds of a whole run if it holds of each emit, and of each halt.
 module _ (X : Type 0) (P : X → Type 0) (of : Outcome → X → Bool) where
@@ -63,8 +60,10 @@ module _ (i n : ℕ) where
   none-emitted : EmitsOwn idle
   none-emitted s e = absurd (false≢true e)
 
-  one-emitted : (x : SignalNo) → (i < ofSignal x) × (ofSignal x < n) → (s : SignalNo) → only x s ≡ true → (i < ofSignal s) × (ofSignal s < n)
-  one-emitted x w s e = let here : ofSignal s ≡ ofSignal x = eqb-true (ofSignal s) (ofSignal x) e in (omega (arith, w .0), omega (arith, w .1))
+  one-emitted : (x : SignalNo) → (i < ofSignal x) × (ofSignal x < n) → (s : SignalNo) → only x s ≡ true
+      → (i < ofSignal s) × (ofSignal s < n)
+  one-emitted x w s e =
+      let here : ofSignal s ≡ ofSignal x = eqb-true (ofSignal s) (ofSignal x) e in (omega (arith, w .0), omega (arith, w .1))
 
   pub start-emits : (E : Signals) (t : Stmt) → Scoped i n t → EmitsOwn (start E t)
   unfolding start Scoped

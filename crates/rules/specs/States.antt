@@ -1,10 +1,11 @@
 -- States: what a reaction does, which states fit, and which are at rest.
 use mathlib.Core.Path.{_≡_}
 use mathlib.Core.Bool.{Bool, true, false, not, _&&_, _||_}
-use Prim.Native.Nat.{ℕ, zero, suc, _+_, _-_, _<_}
+use Prim.Native.Nat.{ℕ, zero, suc, _-_, _<_}
+use Rattle.limits.specs.Limits.{maxHalts}
+use Rattle.bits.specs.Bits.{boot, haltBit, noBits}
 use Rattle.number.specs.declared.SignalNo.{SignalNo}
-use Rattle.number.specs.declared.HaltNo.{HaltNo}
-use Rattle.number.specs.Counts.{signalNo, ofSignal, haltNo, ofHalt}
+use Rattle.number.specs.Counts.{signalNo, ofSignal, haltNo}
 use Rattle.number.specs.Number.{pick}
 use Rattle.sheet.specs.declared.Binary.the-variants.{Sequence, Present, Parallel}
 use Rattle.sheet.specs.Stmt.{Stmt, leaf, one, two, haltCount}
@@ -16,12 +17,6 @@ use Rattle.rules.specs.Rules.{Signals, Halts, Outcome, idle, start, acti
 -- "A state is 64 bits: bit 0 boot, bit 1+h halt h.": a state is the set of the bits that are on
 abbrev pub State : Type 0
 State = ℕ → Bool
-
-abbrev pub boot : ℕ
-boot = 0
-
-abbrev pub haltBit : HaltNo → ℕ
-haltBit h = 1 + ofHalt h
 
 abbrev pub haltsOf : State → Halts
 haltsOf S h = S (haltBit h)
@@ -52,11 +47,6 @@ pub record Event (I : ℕ) (J : Signals) : Type 0 where
 abbrev pub Agrees : Signals → State → Signals → Stmt → Type 0
 Agrees J S E t = (s : SignalNo) → E s ≡ ((only tick s || J s) || (react E S t) .emits s)
 
--- none of the k bits from b on is on
-unfoldable pub noBits : ℕ → ℕ → State → Bool
-noBits zero b S = true
-noBits (suc k) b S = not (S b) && noBits k (suc b) S
-
 -- q may stand ended while the other side of a parallel goes on: it "has 0 in K or R"
 abbrev pub mayEnd : Stmt → Bool
 mayEnd q = K q 0 || R q 0
@@ -71,12 +61,16 @@ apart H (two (Present s) p q) = not (active H p && active H q) && (apart H p && 
 apart H (two Parallel p q) =
     (not (active H p) || (active H q || mayEnd q)) && ((not (active H q) || (active H p || mayEnd p)) && (apart H p && apart H q))
 
+-- no halt from number h on is set
+abbrev pub noHaltsFrom : ℕ → State → Bool
+noHaltsFrom h S = noBits (maxHalts - h) (haltBit (haltNo h)) S
+
 -- "A state fits when: boot off means 0; only existing halts are set; .."
 unfoldable pub fits : State → Stmt → Bool
 unfolding noBits haltCount apart pick
-fits S t = pick (S boot) (noBits (63 - haltCount t) (1 + haltCount t) S && apart (haltsOf S) t) (noBits 63 1 S)
+fits S t = pick (S boot) (noHaltsFrom (haltCount t) S && apart (haltsOf S) t) (noHaltsFrom 0 S)
 
 -- "A state is at rest when no halt bit is set."
 unfoldable pub atRest : State → Bool
 unfolding noBits
-atRest S = noBits 63 1 S
+atRest S = noHaltsFrom 0 S

@@ -1,4 +1,5 @@
-// The reaction rules: a start and a resumption of a statement, the states that fit and those at rest. Sets of signals and of halts are words.
+// The reaction rules: a start and a resumption of a statement, the states that fit and those at rest.
+use bits::Bits;
 use number::HaltNo;
 use number::StmtNo;
 use sheet::Binary;
@@ -7,78 +8,71 @@ use sheet::Leaf;
 use sheet::Unary;
 ghost use mathlib.Core.Path.{_≡_};
 ghost use mathlib.Core.Bool.{true};
-ghost use Prim.Native.Nat.{_+_, _-_, _<_, _≤_};
-ghost use lib.ListN.{length};
-ghost use Rattle.bits.specs.Bits.{has};
-ghost use Rattle.number.specs.Counts.{ofStmt};
-ghost use Rattle.sheet.specs.Read.{further};
+ghost use Rattle.bits.specs.Bits.{has, whole};
 ghost use Rattle.sheet.specs.Rows.{rowAt};
 ghost use Rattle.sheet.specs.Stmt.{leaf};
 ghost use Rattle.sets.specs.Codes.{caught, larger};
 ghost use Rattle.rules.specs.Rules.{Signals, Outcome, idle, followed, beside, trapped, start};
-ghost use Rattle.rules.specs.States.{haltBit, noBits, atRest};
-ghost use Rattle.rules.specs.Words.{Means, LeafInWord, Runnable, Started, Resumed, root, Reacted, Next, Inside, Known, ToldApart, Whole, Fitted};
-ghost use Rattle.rules.specs.Words.{isTrap, isParallel, sidesFit};
+ghost use Rattle.rules.specs.States.{atRest};
+ghost use Rattle.rules.specs.Words.{Means, LeafInBits, Runnable, Started, Resumed, root, Reacted, Next, Inside, Known, ToldApart, KnownRoot, Fitted};
+ghost use Rattle.rules.specs.Words.{isTrap, isParallel, sidesFit, PartsFit};
 
-// What a run of a statement yields. A halt stands at its bit of the state. The code has a word of its own, since a struct without gaps is handed on faster.
-pub struct Reaction {
-    pub emits: u64,
+// "A statement yields emissions, a code and halts." A halt stands at its bit of the state. The code has a word of its own, since a struct without gaps is handed
+// on faster.
+pub struct Yield {
+    pub emits: Bits,
     pub code: u64,
-    pub halts: u64,
-}
-
-// The bit that halt h has in a state.
-pub fn halt_bit(h: HaltNo) -> u32
-    ensures { λ r. ⌜ r ≡ haltBit h ⌝ }
-{
-    1 + (h.number() as u32)
+    pub halts: Bits,
 }
 
 // Ended, with nothing done.
-fn idle() -> Reaction
+fn idle() -> Yield
     ensures { λ r. ⌜ Means r idle ⌝ }
 {
-    Reaction {
-        emits: bits::EMPTY,
+    Yield {
+        emits: Bits::empty(),
         code: 0,
-        halts: bits::EMPTY,
+        halts: Bits::empty(),
     }
 }
 
 // A statement without parts, started. A halt is resumed as it is started.
-fn leaf(l: Leaf) -> Reaction
-    requires { ⌜ LeafInWord l ⌝ }
+fn leaf(l: Leaf) -> Yield
+    requires { ⌜ LeafInBits l ⌝ }
     ensures { λ r. ⌜ ((E : Signals) → Means r (start E (leaf l))) ⌝ }
 {
     match l {
         Leaf::Nothing => idle(),
-        Leaf::Halt(h) => Reaction {
-            emits: bits::EMPTY,
+        Leaf::Halt(h) => Yield {
+            emits: Bits::empty(),
             code: 1,
-            halts: bits::add(bits::EMPTY, halt_bit(h)),
+            halts: Bits::empty().add(bits::halt_bit(h)),
         },
-        Leaf::Emit(s) => Reaction {
-            emits: bits::add(bits::EMPTY, s.number() as u32),
+        Leaf::Emit(s) => Yield {
+            emits: Bits::empty().add(bits::signal_bit(s)),
             code: 0,
-            halts: bits::EMPTY,
+            halts: Bits::empty(),
         },
-        Leaf::Exit(k) => Reaction {
-            emits: bits::EMPTY,
+        Leaf::Exit(k) => Yield {
+            emits: Bits::empty(),
             code: k as u64,
-            halts: bits::EMPTY,
+            halts: Bits::empty(),
         },
     }
 }
 
 // What comes of a, which ended, and of b after it.
-fn followed(a: Reaction, b: Reaction) -> Reaction
+fn followed(a: Yield, b: Yield) -> Yield
     requires { ⌜ a .code ≡ 0 ⌝ }
     ensures { λ r. ⌜ ((p q : Outcome) → Means a p → Means b q → Means r (followed p q)) ⌝ }
 {
-    Reaction {
-        emits: bits::join(a.emits, b.emits),
+    let first = a.emits;
+    let second = b.emits;
+    let halts = b.halts;
+    Yield {
+        emits: first.join(second),
         code: b.code,
-        halts: b.halts,
+        halts,
     }
 }
 
@@ -92,22 +86,26 @@ fn larger(a: u64, b: u64) -> u64
 }
 
 // What comes of the two sides of a parallel.
-fn beside(a: Reaction, b: Reaction) -> Reaction
+fn beside(a: Yield, b: Yield) -> Yield
     ensures { λ r. ⌜ ((p q : Outcome) → Means a p → Means b q → Means r (beside p q)) ⌝ }
 {
-    let emits = bits::join(a.emits, b.emits);
+    let first = a.emits;
+    let second = b.emits;
+    let emits = first.join(second);
     let code = larger(a.code, b.code);
     if 1 < code {
-        return Reaction {
+        return Yield {
             emits,
             code,
-            halts: bits::EMPTY,
+            halts: Bits::empty(),
         };
     }
-    Reaction {
+    let first_halts = a.halts;
+    let second_halts = b.halts;
+    Yield {
         emits,
         code,
-        halts: bits::join(a.halts, b.halts),
+        halts: first_halts.join(second_halts),
     }
 }
 
@@ -124,51 +122,35 @@ fn caught(code: u64) -> u64
 }
 
 // What a trap makes of its body's run.
-fn trapped(a: Reaction) -> Reaction
+fn trapped(a: Yield) -> Yield
     ensures { λ r. ⌜ ((p : Outcome) → Means a p → Means r (trapped p)) ⌝ }
 {
-    Reaction {
-        emits: a.emits,
+    let emits = a.emits;
+    let halts = a.halts;
+    Yield {
+        emits,
         code: caught(a.code),
-        halts: a.halts,
+        halts,
     }
 }
 
-// Whether none of the `count` halts from `first` on is set in a state.
-fn none_set(state: u64, first: u32, count: u32) -> bool
-    requires { ⌜ first + count ≤ 63 ⌝ }
-    ensures { λ r. ⌜ r ≡ noBits count (1 + first) (has state) ⌝ }
-{
-    (state >> 1 >> first) % (1u64 << count) == 0
-}
-
 // "A state is at rest when no halt bit is set."
-pub fn at_rest(state: u64) -> bool
-    ensures { λ r. ⌜ r ≡ atRest (has state) ⌝ }
+pub fn at_rest(state: Bits) -> bool
+    ensures { λ r. ⌜ r ≡ atRest (has (whole state)) ⌝ }
 {
-    none_set(state, 0, 63)
-}
-
-// The number of a statement's second part: the end of the first one's row.
-fn second_part(rows: &[u64], n: StmtNo) -> StmtNo
-    requires { ⌜ (ofStmt n < 4096) × (ofStmt n + 1 < length (now rows)) ⌝ }
-    ensures { λ r. ⌜ r ≡ rowAt (now (rows .entry)) (further n 1) .end ⌝ }
-{
-    let left = sheet::row_at(rows, sheet::first_part(n));
-    left.end
+    state.none_in(bits::halt_bit(HaltNo::new(0)), limits::MAX_HALTS)
 }
 
 // Whether one of the state's halts lies inside the statement: its halts are those from its row's first to before its row's past.
-fn inside(rows: &[u64], n: StmtNo, state: u64) -> bool
+fn inside(rows: &[u64], n: StmtNo, state: Bits) -> bool
     requires { ⌜ Runnable (now rows) n ⌝ }
-    ensures { λ r. ⌜ Inside (now (rows .entry)) n state r ⌝ }
+    ensures { λ r. ⌜ Inside (now (rows .entry)) n (whole state) r ⌝ }
 {
     let row = sheet::row_at(rows, n);
     let first = row.first;
     let past = row.past;
-    let a = first.number() as u32;
-    let b = past.number() as u32;
-    !none_set(state, a, b - a)
+    let from = bits::halt_bit(first);
+    !state.none_in(from, bits::halt_bit(past) - from)
 }
 
 fn is_trap(u: Unary) -> bool
@@ -183,9 +165,9 @@ fn is_trap(u: Unary) -> bool
 }
 
 // The statement at row n, started.
-pub fn start(rows: &[u64], n: StmtNo, e: u64) -> Reaction
+pub fn start(rows: &[u64], n: StmtNo, e: Bits) -> Yield
     requires { ⌜ Runnable (now rows) n ⌝ }
-    ensures { λ r. ⌜ Started (now (rows .entry)) n e r ⌝ }
+    ensures { λ r. ⌜ Started (now (rows .entry)) n (whole e) r ⌝ }
 {
     let row = sheet::row_at(rows, n);
     let head = row.head;
@@ -204,17 +186,17 @@ pub fn start(rows: &[u64], n: StmtNo, e: u64) -> Reaction
                 if p.code != 0 {
                     return p;
                 }
-                followed(p, start(rows, second_part(rows, n), e))
+                followed(p, start(rows, sheet::second_part(rows, n), e))
             }
             Binary::Present(s) => {
-                if bits::member(e, s.number() as u32) {
+                if e.member(bits::signal_bit(s)) {
                     return start(rows, sheet::first_part(n), e);
                 }
-                start(rows, second_part(rows, n), e)
+                start(rows, sheet::second_part(rows, n), e)
             }
             Binary::Parallel => {
                 let p = start(rows, sheet::first_part(n), e);
-                beside(p, start(rows, second_part(rows, n), e))
+                beside(p, start(rows, sheet::second_part(rows, n), e))
             }
         },
     }
@@ -231,9 +213,9 @@ fn is_parallel(b: Binary) -> bool
 }
 
 // The statement at row n, in which one of the state's halts lies, resumed.
-pub fn resume(rows: &[u64], n: StmtNo, e: u64, state: u64) -> Reaction
-    requires { ⌜ Runnable (now rows) n × Inside (now rows) n state true ⌝ }
-    ensures { λ r. ⌜ Resumed (now (rows .entry)) n e state r ⌝ }
+pub fn resume(rows: &[u64], n: StmtNo, e: Bits, state: Bits) -> Yield
+    requires { ⌜ Runnable (now rows) n × Inside (now rows) n (whole state) true ⌝ }
+    ensures { λ r. ⌜ Resumed (now (rows .entry)) n (whole e) (whole state) r ⌝ }
 {
     let row = sheet::row_at(rows, n);
     let head = row.head;
@@ -245,9 +227,9 @@ pub fn resume(rows: &[u64], n: StmtNo, e: u64, state: u64) -> Reaction
 }
 
 // What a statement of kind u does with its one part.
-fn resume_part(rows: &[u64], n: StmtNo, u: Unary, e: u64, state: u64) -> Reaction
-    requires { ⌜ Runnable (now rows) n × Inside (now rows) n state true × (rowAt (now rows) n .head ≡ Head.One u) ⌝ }
-    ensures { λ r. ⌜ Resumed (now (rows .entry)) n e state r ⌝ }
+fn resume_part(rows: &[u64], n: StmtNo, u: Unary, e: Bits, state: Bits) -> Yield
+    requires { ⌜ Runnable (now rows) n × Inside (now rows) n (whole state) true × (rowAt (now rows) n .head ≡ Head.One u) ⌝ }
+    ensures { λ r. ⌜ Resumed (now (rows .entry)) n (whole e) (whole state) r ⌝ }
 {
     let part = sheet::first_part(n);
     match u {
@@ -259,7 +241,7 @@ fn resume_part(rows: &[u64], n: StmtNo, u: Unary, e: u64, state: u64) -> Reactio
             followed(p, start(rows, part, e))
         }
         Unary::Watching(s) => {
-            if bits::member(e, s.number() as u32) {
+            if e.member(bits::signal_bit(s)) {
                 return idle();
             }
             resume(rows, part, e, state)
@@ -270,12 +252,12 @@ fn resume_part(rows: &[u64], n: StmtNo, u: Unary, e: u64, state: u64) -> Reactio
 }
 
 // What a statement of kind b does with its two parts. A side of a parallel without a halt of the state does nothing.
-fn resume_sides(rows: &[u64], n: StmtNo, b: Binary, e: u64, state: u64) -> Reaction
-    requires { ⌜ Runnable (now rows) n × Inside (now rows) n state true × (rowAt (now rows) n .head ≡ Head.Two b) ⌝ }
-    ensures { λ r. ⌜ Resumed (now (rows .entry)) n e state r ⌝ }
+fn resume_sides(rows: &[u64], n: StmtNo, b: Binary, e: Bits, state: Bits) -> Yield
+    requires { ⌜ Runnable (now rows) n × Inside (now rows) n (whole state) true × (rowAt (now rows) n .head ≡ Head.Two b) ⌝ }
+    ensures { λ r. ⌜ Resumed (now (rows .entry)) n (whole e) (whole state) r ⌝ }
 {
     let first = sheet::first_part(n);
-    let second = second_part(rows, n);
+    let second = sheet::second_part(rows, n);
     if !inside(rows, first, state) {
         if is_parallel(b) {
             return beside(idle(), resume(rows, second, e, state));
@@ -300,16 +282,13 @@ fn resume_sides(rows: &[u64], n: StmtNo, b: Binary, e: u64, state: u64) -> React
     }
 }
 
-// Bit 0 of a state.
-const BOOT: u32 = 0;
-
 // "Boot off starts the root; boot on resumes it, or does nothing if no halt is set."
-pub fn react(rows: &[u64], e: u64, state: u64) -> Reaction
+pub fn react(rows: &[u64], e: Bits, state: Bits) -> Yield
     requires { ⌜ Runnable (now rows) root ⌝ }
-    ensures { λ r. ⌜ Reacted (now (rows .entry)) e state r ⌝ }
+    ensures { λ r. ⌜ Reacted (now (rows .entry)) (whole e) (whole state) r ⌝ }
 {
     let root = StmtNo::new(0);
-    if bits::member(state, BOOT) {
+    if state.member(bits::BOOT) {
         if !inside(rows, root, state) {
             return idle();
         }
@@ -319,10 +298,11 @@ pub fn react(rows: &[u64], e: u64, state: u64) -> Reaction
 }
 
 // "The next state has boot on."
-pub fn next_state(r: Reaction) -> u64
-    ensures { λ w. ⌜ Next r w ⌝ }
+pub fn next_state(r: Yield) -> Bits
+    ensures { λ w. ⌜ Next r (whole w) ⌝ }
 {
-    bits::add(r.halts, BOOT)
+    let halts = r.halts;
+    halts.add(bits::BOOT)
 }
 
 // Whether p and q may both have halts, or one of them alone.
@@ -347,52 +327,67 @@ fn sides_fit(b: Binary, p: bool, q: bool, ends_p: bool, ends_q: bool) -> bool
     true
 }
 
+// Whether the parts of a statement of kind b, at rows `first` and `second`, may have the halts that they have.
+fn parts_fit(
+    rows: &[u64],
+    statics: &[u64],
+    b: Binary,
+    first: StmtNo,
+    second: StmtNo,
+    state: Bits,
+) -> bool
+    requires { ⌜ Known (now rows) (now statics) first × Known (now rows) (now statics) second ⌝ }
+    ensures { λ r. ⌜ PartsFit (now (rows .entry)) b first second (whole state) r ⌝ }
+{
+    let p = inside(rows, first, state);
+    let q = inside(rows, second, state);
+    sides_fit(
+        b,
+        p,
+        q,
+        sets::may_end(statics, first),
+        sets::may_end(statics, second),
+    )
+}
+
 // What a state that fits keeps apart.
-fn apart(rows: &[u64], sets: &[u64], n: StmtNo, state: u64) -> bool
-    requires { ⌜ Known (now rows) (now sets) n ⌝ }
-    ensures { λ r. ⌜ ToldApart (now (rows .entry)) n state r ⌝ }
+fn apart(rows: &[u64], statics: &[u64], n: StmtNo, state: Bits) -> bool
+    requires { ⌜ Known (now rows) (now statics) n ⌝ }
+    ensures { λ r. ⌜ ToldApart (now (rows .entry)) n (whole state) r ⌝ }
 {
     let row = sheet::row_at(rows, n);
     let head = row.head;
     match head {
         Head::Zero(_) => true,
-        Head::One(_) => apart(rows, sets, sheet::first_part(n), state),
+        Head::One(_) => apart(rows, statics, sheet::first_part(n), state),
         Head::Two(b) => {
             let first = sheet::first_part(n);
-            let second = second_part(rows, n);
-            let p = inside(rows, first, state);
-            let q = inside(rows, second, state);
-            if !sides_fit(
-                b,
-                p,
-                q,
-                sets::may_end(sets, first),
-                sets::may_end(sets, second),
-            ) {
+            let second = sheet::second_part(rows, n);
+            if !parts_fit(rows, statics, b, first, second, state) {
                 return false;
             }
-            if !apart(rows, sets, first, state) {
+            if !apart(rows, statics, first, state) {
                 return false;
             }
-            apart(rows, sets, second, state)
+            apart(rows, statics, second, state)
         }
     }
 }
 
 // "A state fits when: boot off means 0; only existing halts are set; .."
-pub fn fits(rows: &[u64], sets: &[u64], state: u64) -> bool
-    requires { ⌜ Whole (now rows) (now sets) ⌝ }
-    ensures { λ r. ⌜ Fitted (now (rows .entry)) state r ⌝ }
+pub fn fits(rows: &[u64], statics: &[u64], state: Bits) -> bool
+    requires { ⌜ KnownRoot (now rows) (now statics) ⌝ }
+    ensures { λ r. ⌜ Fitted (now (rows .entry)) (whole state) r ⌝ }
 {
-    if !bits::member(state, BOOT) {
-        return none_set(state, 0, 63);
+    if !state.member(bits::BOOT) {
+        return at_rest(state);
     }
     let root = StmtNo::new(0);
     let row = sheet::row_at(rows, root);
     let past = row.past;
     let halts = past.number() as u32;
-    if !none_set(state, halts, 63 - halts) {
+    if !state.none_in(bits::halt_bit(past), limits::MAX_HALTS - halts) {
         return false;
     }
-    apart(rows, sets, root, state)
+    apart(rows, statics, root, state)
 }

@@ -1,14 +1,14 @@
 -- A run grows by a step at its end, and where each step has one answer there is one run.
-use Prim.Native.Nat.{ℕ, zero, suc, _+_, _<_, _≤_}
+use Prim.Native.Nat.{ℕ, zero, suc, _+_, _*_, _/_, _<_, _≤_}
 use mathlib.Core.Path.{_≡_, refl, sym, ap, ap₂, _∙_, subst}
 use mathlib.Core.Bool.{Bool, true, false, and-eq-true-iff}
 use mathlib.Core.List.{List, [], _∷_, _++_}
 use native.Mathlib.Omega.{arith}
-use native.Mathlib.Nat.{zero-add}
 use native.Mathlib.Numerals.{add-one}
-use lib.ListN.{length, take, drop, getD, set, drop-of-length-le}
+use lib.ListN.{length, take, drop, getD, drop-of-length-le}
 use lib.Seq.{sets, length-sets, take-suc, take-all, drop-cons, length-take-le}
-use Rattle.gates.proofs.Laws.{sets-append}
+use Rattle.bits.specs.Bits.{words, wordsOf, setsIn, columnOf}
+use Rattle.bits.proofs.Columns.{sets-length, set-laid}
 use Rattle.run.specs.Many.{Step, Steps, ended, goes, lastState, each, Ran}
 
 module _ {step : Step} where
@@ -32,18 +32,23 @@ unfolding lastState
 last-snoc state [] next = refl
 last-snoc state (s ∷ states) next = last-snoc s states next
 
--- one entry more behind those that were laid
-laid-more : (l u : List ℕ) (v : ℕ) {j : ℕ} → length u ≡ j → set (sets l 0 u) j v ≡ sets l 0 (u ++ (v ∷ []))
-laid-more l u v {j} e = let place : 0 + length u ≡ j = zero-add (length u) ∙ e in rw (sets-append l 0 u (v ∷ []), place)
+-- a run over the sets that were handed in, of which j have passed
+pub record Passed (step : Step) (start : ℕ) (sets-in signals signals′ states states′ : List ℕ) (last : ℕ) : Type 0 where
+  pub shown : List ℕ
+  pub passed : List ℕ
+  pub steps : Steps step start sets-in shown passed
+  pub signals-left : signals′ ≡ sets signals 0 (columnOf shown)
+  pub states-left : states′ ≡ sets states 0 (columnOf passed)
+  pub ends : last ≡ lastState start passed
 
 module _ (step : Step) (start : ℕ) (events signals states : List ℕ) where
   -- the loop has come to event j
   pub record Upto (signals′ states′ : List ℕ) (state j : ℕ) : Type 0 where
-    pub upto : j ≤ length events
-    pub ran : Ran step start (take j events) signals signals′ states states′ state
+    pub upto : j ≤ length (setsIn events)
+    pub ran : Passed step start (take j (setsIn events)) signals signals′ states states′ state
 
   pub upto-none : Upto signals states start 0
-  unfolding lastState
+  unfolding lastState columnOf
   upto-none =
       record {
         upto = omega arith;
@@ -53,32 +58,44 @@ module _ (step : Step) (start : ℕ) (events signals states : List ℕ) where
   module _ {signals′ states′ : List ℕ} {state j : ℕ} (here : Upto signals′ states′ state j) where
     -- the slices keep their lengths
     pub signals-length : length signals′ ≡ length signals
-    signals-length = ap length (here .ran .signals-left) ∙ length-sets signals 0 (here .ran .shown)
+    signals-length = ap length (here .ran .signals-left) ∙ length-sets signals 0 (columnOf (here .ran .shown))
 
     pub states-length : length states′ ≡ length states
-    states-length = ap length (here .ran .states-left) ∙ length-sets states 0 (here .ran .passed)
+    states-length = ap length (here .ran .states-left) ∙ length-sets states 0 (columnOf (here .ran .passed))
 
-    pub upto-next : (out next : ℕ) → j < length events → step state (getD events j 0) out next
-        → Upto (set signals′ j out) (set states′ j next) next (j + 1)
-    upto-next out next h taken =
+    pub upto-next : (out next : ℕ) {event : ℕ} → j < length events / words → getD (setsIn events) j 0 ≡ event → step state event out next
+        → Upto (sets signals′ (j * words) (wordsOf words out)) (sets states′ (j * words) (wordsOf words next)) next (j + 1)
+    upto-next out next {event} h is taken =
         let ran = here .ran in
-        let so-far : length (take j events) ≡ j = length-take-le j events (here .upto) in
-        let last : step (lastState start (ran .passed)) (getD events j 0) out next = rw (ran .ends) at taken in
-        let longer : take j events ++ (getD events j 0 ∷ []) ≡ take (j + 1) events = rw (add-one, take-suc events j 0 h) in
+        let es : List ℕ = setsIn events in
+        let inside : j < length es = omega (arith, sets-length events) in
+        let so-far : length (take j es) ≡ j = length-take-le j es (here .upto) in
+        let last : step (lastState start (ran .passed)) event out next = rw (ran .ends) at taken in
+        let longer : take j es ++ (getD es j 0 ∷ []) ≡ take (j + 1) es = rw (add-one, take-suc es j 0 inside) in
         record {
           upto = omega arith;
           ran = record {
             shown = ran .shown ++ (out ∷ []);
             passed = ran .passed ++ (next ∷ []);
-            steps = subst (λ (es : List ℕ). Steps step start es (ran .shown ++ (out ∷ [])) (ran .passed ++ (next ∷ []))) longer (steps-snoc (ran .steps) last);
-            signals-left = rw (ran .signals-left) (laid-more signals (ran .shown) out (shown-each (ran .steps) ∙ so-far));
-            states-left = rw (ran .states-left) (laid-more states (ran .passed) next (states-each (ran .steps) ∙ so-far));
+            steps = subst (λ (xs : List ℕ). Steps step start xs (ran .shown ++ (out ∷ [])) (ran .passed ++ (next ∷ []))) longer (steps-snoc (ran .steps) (rw is last));
+            signals-left = rw (ran .signals-left) (set-laid signals (ran .shown) out (shown-each (ran .steps) ∙ so-far));
+            states-left = rw (ran .states-left) (set-laid states (ran .passed) next (states-each (ran .steps) ∙ so-far));
             ends = sym (last-snoc start (ran .passed) next);
           };
         }
 
-    pub upto-all : length events ≤ j → Ran step start events signals signals′ states states′ state
-    upto-all h = subst (λ (es : List ℕ). Ran step start es signals signals′ states states′ state) (take-all j events h) (here .ran)
+    pub upto-all : length events / words ≤ j → Ran step start events signals signals′ states states′ state
+    upto-all h =
+        let ran = here .ran in
+        let all : take j (setsIn events) ≡ setsIn events = take-all j (setsIn events) (omega (arith, sets-length events)) in
+        record {
+          shown = ran .shown;
+          passed = ran .passed;
+          steps = subst (λ (xs : List ℕ). Steps step start xs (ran .shown) (ran .passed)) all (ran .steps);
+          signals-left = ran .signals-left;
+          states-left = ran .states-left;
+          ends = ran .ends;
+        }
 
 -- the test of each word, word by word
 pub each-none : (test : ℕ → Bool) (ws : List ℕ) (j : ℕ) → length ws ≤ j → each test (drop j ws) ≡ true

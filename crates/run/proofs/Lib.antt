@@ -1,8 +1,7 @@
+pub mod Words
+pub mod Counting
 pub mod Rank
 pub mod One
-pub mod Words
-pub mod Column
-pub mod Counting
 pub mod Numbering
 pub mod Passes
 pub mod Showing

@@ -11,36 +11,17 @@ use lib.Seq.{sets, sets-eq, length-sets, length-take-le, take-all, take-at, getD
 use borrow.Author.Tests.{eq-eqb, ne-eqb, lt-ltb, le-ltb}
 use Rattle.number.specs.Counts.{cellNo, ofCell}
 use Rattle.number.specs.declared.CellNo.{CellNo}
-use Rattle.bits.specs.Bits.{has}
+use Rattle.number.specs.declared.SignalNo.{SignalNo}
+use Rattle.bits.specs.Bits.{has, signalsIn}
 use Rattle.bits.proofs.Laws.{empty}
-use Rattle.gates.specs.declared.Cell.{Cell}
-use Rattle.gates.specs.declared.Cell.the-variants.{Low, High, Input, Or, And, Butnot, Register}
-use Rattle.gates.specs.Values.{cellAt, tally, registers, before, operands, nextOf}
-use Rattle.order.specs.Paths.{Closed}
-use Rattle.run.specs.React.{operandsOf, fed, Numberable, Numbers}
-use Rattle.run.proofs.Counting.{one-more, Counted, counted-none, counted-next, counted-room, counted-all}
-
-operands-append : (a b : List Cell) → operandsOf (a ++ b) ≡ operandsOf a ++ operandsOf b
-unfolding operandsOf
-operands-append [] b = refl
-operands-append (Low ∷ a) b = operands-append a b
-operands-append (High ∷ a) b = operands-append a b
-operands-append (Input s ∷ a) b = operands-append a b
-operands-append (Or x y ∷ a) b = operands-append a b
-operands-append (And x y ∷ a) b = operands-append a b
-operands-append (Butnot x y ∷ a) b = operands-append a b
-operands-append (Register x ∷ a) b = ap (λ (l : List ℕ). ofCell x ∷ l) (operands-append a b)
-
--- one more cell has one operand more where it is a register
-one-length : (c : Cell) (k : ℕ) → k + length (operandsOf (c ∷ [])) ≡ tally c k
-unfolding operandsOf
-one-length Low k = omega arith
-one-length High k = omega arith
-one-length (Input s) k = omega arith
-one-length (Or x y) k = omega arith
-one-length (And x y) k = omega arith
-one-length (Butnot x y) k = omega arith
-one-length (Register x) k = omega arith
+use Rattle.cells.specs.declared.Cell.{Cell}
+use Rattle.cells.specs.declared.Cell.the-variants.{Register}
+use Rattle.cells.specs.Cells.{cellAt}
+use Rattle.cells.specs.Values.{tally, registers, before, Solves, operandsOf, nextOf}
+use Rattle.run.specs.Words.{outputsOf}
+use Rattle.run.specs.React.{Clock, fed, Numberable, Numbers}
+use Rattle.cells.proofs.Counting.{one-more, operands-append, one-length}
+use Rattle.run.proofs.Counting.{Counted, counted-none, counted-next, counted-room, counted-all}
 
 -- a cell that is no register leaves the operands as they are ..
 pub not-kept : (l : List ℕ) (k : ℕ) (c : Cell) → operandsOf (c ∷ []) ≡ [] → (k ≡ tally c k) × (l ≡ sets l k (operandsOf (c ∷ [])))
@@ -51,17 +32,6 @@ pub one-kept : (l : List ℕ) (k : ℕ) {c : Cell} {x : CellNo} {n : ℕ} → c 
     → (k + 1 ≡ tally c k) × (set l k n ≡ sets l k (operandsOf (c ∷ [])))
 unfolding operandsOf
 one-kept l k is number = rw (is, number) (omega arith, refl)
-
-pub operands-count : (cs : List Cell) → length (operandsOf cs) ≡ registers cs
-unfolding operandsOf registers
-operands-count [] = refl
-operands-count (Low ∷ a) = operands-count a
-operands-count (High ∷ a) = operands-count a
-operands-count (Input s ∷ a) = operands-count a
-operands-count (Or x y ∷ a) = operands-count a
-operands-count (And x y ∷ a) = operands-count a
-operands-count (Butnot x y ∷ a) = operands-count a
-operands-count (Register x ∷ a) = ap suc (operands-count a)
 
 -- what is laid behind the first k entries
 pub laid-more : (l xs : List ℕ) (k : ℕ) → k + length xs ≤ length l → take (k + length xs) (sets l k xs) ≡ take k l ++ xs
@@ -111,22 +81,10 @@ module _ {cells : List Cell} {bits operands : List ℕ} where
   pub numbering-all : {k i : ℕ} → Numbering cells bits operands k i → length cells ≤ i → Numbers cells bits operands k
   numbering-all {k} {i} n h =
       record {
-        numbered = record { places = n .places; bit = λ x l. n .bit x (omega arith) };
+        numbered = record { long = n .places; bit = λ x l. n .bit x (omega arith) };
         count = counted-all (n .counted) h;
         feeds = n .feeds ∙ ap operandsOf (take-all i cells h);
       }
-
--- the operands' values in cell order
-operands-values : (v : CellNo → Bool) (cs : List Cell) → operands v cs ≡ map (λ (x : ℕ). v (cellNo x)) (operandsOf cs)
-unfolding operands operandsOf
-operands-values v [] = refl
-operands-values v (Low ∷ a) = operands-values v a
-operands-values v (High ∷ a) = operands-values v a
-operands-values v (Input s ∷ a) = operands-values v a
-operands-values v (Or x y ∷ a) = operands-values v a
-operands-values v (And x y ∷ a) = operands-values v a
-operands-values v (Butnot x y ∷ a) = operands-values v a
-operands-values v (Register x ∷ a) = ap (λ (l : List Bool). v x ∷ l) (operands-values v a)
 
 -- an entry of a list of values
 at-entry : (f : ℕ → Bool) (l : List ℕ) (n : ℕ) → n < length l → getD (map f l) n false ≡ f (getD l n 0)
@@ -135,8 +93,8 @@ at-entry f (x ∷ l) zero h = refl
 at-entry f (x ∷ l) (suc n) h = at-entry f l n (omega arith)
 
 -- what they feed is the next state
-pub fed-next : (v : CellNo → Bool) (cells : List Cell) {l : List ℕ} → l ≡ operandsOf cells → (b : ℕ) → fed l v b ≡ nextOf v cells b
-fed-next v cells {l} e b = go (decLt b (length l)) ∙ sym (ap (λ (bs : List Bool). getD bs b false) (operands-values v cells ∙ sym (ap (map f) e)))
+fed-next : (v : CellNo → Bool) (cells : List Cell) {l : List ℕ} → l ≡ operandsOf cells → (b : ℕ) → fed l v b ≡ nextOf v cells b
+fed-next v cells {l} e b = go (decLt b (length l)) ∙ sym (ap (λ (bs : List Bool). getD bs b false) (sym (ap (map f) e)))
   where
     f : ℕ → Bool
     f x = v (cellNo x)
@@ -144,35 +102,6 @@ fed-next v cells {l} e b = go (decLt b (length l)) ∙ sym (ap (λ (bs : List Bo
     go : Dec (b < length l) → fed l v b ≡ getD (map f l) b false
     go (yes h) = rw (lt-ltb b (length l) h) (sym (at-entry f l b h))
     go (no h) = rw (le-ltb b (length l) (omega arith)) (sym (List·getD-eq-default (map f l) false {n = b} (omega (arith, length-map l f))))
-
--- which register an operand is of
-record OperandOf (cells : List Cell) (n : ℕ) : Type 0 where
-  register : CellNo
-  operand : CellNo
-  is : cellAt cells register ≡ Register operand
-  same : n ≡ ofCell operand
-
-behind : (c : Cell) (cs : List Cell) {n : ℕ} → OperandOf cs n → OperandOf (c ∷ cs) n
-behind c cs o = record { register = cellNo (suc (ofCell (o .register))); operand = o .operand; is = o .is; same = o .same }
-
-operand-of : (cs : List Cell) (b : ℕ) → b < length (operandsOf cs) → OperandOf cs (getD (operandsOf cs) b 0)
-unfolding operandsOf
-operand-of [] b h = absurd (omega arith)
-operand-of (Low ∷ cs) b h = behind Low cs (operand-of cs b h)
-operand-of (High ∷ cs) b h = behind High cs (operand-of cs b h)
-operand-of (Input s ∷ cs) b h = behind (Input s) cs (operand-of cs b h)
-operand-of (Or x y ∷ cs) b h = behind (Or x y) cs (operand-of cs b h)
-operand-of (And x y ∷ cs) b h = behind (And x y) cs (operand-of cs b h)
-operand-of (Butnot x y ∷ cs) b h = behind (Butnot x y) cs (operand-of cs b h)
-operand-of (Register x ∷ cs) zero h = record { register = cellNo 0; operand = x; is = refl; same = refl }
-operand-of (Register x ∷ cs) (suc b) h = behind (Register x) cs (operand-of cs b (omega arith))
-
--- each operand is a cell
-pub operand-cell : (cells : List Cell) → Closed cells → {l : List ℕ} → l ≡ operandsOf cells → (b : ℕ) → b < length l → getD l b 0 < length cells
-operand-cell cells closed {l} e b h =
-    let o = operand-of cells b (omega (arith, ap length e)) in
-    let is : getD l b 0 ≡ ofCell (o .operand) = ap (λ (xs : List ℕ). getD xs b 0) e ∙ o .same in
-    omega (arith, is, closed .registers (o .register) (o .operand) (o .is))
 
 -- the state has come to bit k
 pub record Feeding (operands : List ℕ) (v : CellNo → Bool) (w k : ℕ) : Type 0 where
@@ -197,3 +126,9 @@ module _ {operands : List ℕ} {v : CellNo → Bool} where
   feeding-all {w} {k} s h b =
       let all : k ≡ length operands = omega (arith, s .upto) in
       s .bits b ∙ ap (λ (n : ℕ). ltb b n && v (cellNo (getD operands b 0))) all
+
+-- values that solve the cells, with the outputs that they show and the state that their operands feed, are a clock
+pub clock-of : (I O : ℕ) (cells : List Cell) {state event outputs next : ℕ} {l : List ℕ} (v : CellNo → Bool) → l ≡ operandsOf cells
+    → Solves (signalsIn event) (has state) cells v → ((s : SignalNo) → signalsIn outputs s ≡ outputsOf I O v s) → ((b : ℕ) → has next b ≡ fed l v b)
+    → Clock I O cells state event outputs next
+clock-of I O cells v feeds solves shows keeps = record { values = v; solves = solves; shows = shows; keeps = λ b. keeps b ∙ fed-next v cells feeds b }

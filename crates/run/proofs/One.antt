@@ -3,38 +3,27 @@
 use Prim.Native.Nat.{ℕ, zero, suc, _<_}
 use mathlib.Core.Path.{_≡_, refl, sym, ap, _∙_}
 use mathlib.Core.Bool.{Bool, true, false, _&&_}
-use mathlib.Core.List.{List, [], _∷_}
-use mathlib.Core.Logic.{inl, inr}
+use mathlib.Core.List.{List, [], _∷_, map}
 use native.Mathlib.Omega.{arith}
 use native.Mathlib.Nat.{not-suc-le-zero}
 use lib.ListN.{getD}
-use Rattle.gates.specs.Cells.{signalCell}
-use Rattle.number.specs.Counts.{signalNo}
+use Rattle.cells.specs.Cells.{signalCell}
+use Rattle.number.specs.Counts.{cellNo, signalNo}
 use Rattle.number.specs.Number.{pick}
 use Rattle.number.specs.declared.CellNo.{CellNo}
 use Rattle.number.specs.declared.SignalNo.{SignalNo}
 use Rattle.bits.specs.Bits.{has, signalsIn}
 use Rattle.bits.proofs.Laws.{ext}
-use Rattle.gates.specs.declared.Cell.{Cell}
-use Rattle.gates.specs.declared.Cell.the-variants.{Low, High, Input, Or, And, Butnot, Register}
-use Rattle.gates.specs.Values.{before, cellAt, value, Solves, operands, nextOf}
-use Rattle.order.specs.Paths.{pinsOf, Among, Ordered}
-use Rattle.run.specs.declared.Reaction.{Reaction}
+use Rattle.cells.specs.declared.Cell.{Cell}
+use Rattle.cells.specs.Cells.{cellAt}
+use Rattle.cells.specs.Values.{before, value, Solves, operandsOf, nextOf}
+use Rattle.cells.specs.Needs.{pinsOf, Among}
+use Rattle.order.specs.Paths.{Ordered}
 use Rattle.run.specs.Words.{isOutput, outputsOf}
 use Rattle.run.specs.Held.{SolvesHeld, none, OneSolution}
-use Rattle.run.specs.React.{Clock, Reacts, event-refused, state-refused, reacted}
+use Rattle.run.specs.React.{Clock}
+use Rattle.cells.proofs.Needing.{value-same}
 use Rattle.run.proofs.Rank.{Ranked, rank, ranked}
-
--- a cell's value depends on the nets that it needs, and on no other
-pub value-same : (J : SignalNo → Bool) (q : Bool) (u v : CellNo → Bool) (c : Cell) → ((y : CellNo) → Among (pinsOf c) y → u y ≡ v y)
-    → value J q u c ≡ value J q v c
-value-same J q u v Low f = refl
-value-same J q u v High f = refl
-value-same J q u v (Input s) f = refl
-value-same J q u v (Or x y) f = rw (f x (inl refl), f y (inr refl))
-value-same J q u v (And x y) f = rw (f x (inl refl), f y (inr refl))
-value-same J q u v (Butnot x y) f = rw (f x (inl refl), f y (inr refl))
-value-same J q u v (Register x) f = refl
 
 module _ (hold h : CellNo → Bool) (J : SignalNo → Bool) (S : ℕ → Bool) (cells : List Cell) (rank : CellNo → ℕ) (lower : Ranked rank cells) where
   -- what a net is to be, where those that it needs have the values v
@@ -92,19 +81,9 @@ module _ (cells : List Cell) (order : List ℕ) (o : Ordered cells order) where
       one .only u su x ∙ sym (one .only v sv x)
 
 -- the next state is the same where the nets are
-operands-same : (u v : CellNo → Bool) → ((x : CellNo) → u x ≡ v x) → (cells : List Cell) → operands u cells ≡ operands v cells
-unfolding operands
+operands-same : (u v : CellNo → Bool) → ((x : CellNo) → u x ≡ v x) → (l : List ℕ) → map (λ (x : ℕ). u (cellNo x)) l ≡ map (λ (x : ℕ). v (cellNo x)) l
 operands-same u v f [] = refl
-operands-same u v f (Low ∷ cs) = operands-same u v f cs
-operands-same u v f (High ∷ cs) = operands-same u v f cs
-operands-same u v f (Input s ∷ cs) = operands-same u v f cs
-operands-same u v f (Or x y ∷ cs) = operands-same u v f cs
-operands-same u v f (And x y ∷ cs) = operands-same u v f cs
-operands-same u v f (Butnot x y ∷ cs) = operands-same u v f cs
-operands-same u v f (Register x ∷ cs) = rw (f x, operands-same u v f cs)
-
-clash : {b : Bool} → b ≡ true → b ≡ false → ⊥
-clash {b} p q = let z : _≡_ {A = ℕ} 0 1 = cc in omega arith
+operands-same u v f (x ∷ l) = rw (f (cellNo x), operands-same u v f l)
 
 module _ (I O : ℕ) (cells : List Cell) (order : List ℕ) (o : Ordered cells order) (state event : ℕ) where
   -- what a clock shows and keeps is so by whatever solves the cells
@@ -116,7 +95,7 @@ module _ (I O : ℕ) (cells : List Cell) (order : List ℕ) (o : Ordered cells o
     shows-by s = p .shows s ∙ ap (λ (on : Bool). isOutput I O s && on) (same (signalCell s))
 
     pub keeps-by : (b : ℕ) → has n b ≡ nextOf v cells b
-    keeps-by b = p .keeps b ∙ ap (λ (bits : List Bool). getD bits b false) (operands-same (p .values) v same cells)
+    keeps-by b = p .keeps b ∙ ap (λ (bits : List Bool). getD bits b false) (operands-same (p .values) v same (operandsOf cells))
 
   pub one-clock : (a b n m : ℕ) → Clock I O cells state event a n → Clock I O cells state event b m → (a ≡ b) × (n ≡ m)
   one-clock a b n m p q =
@@ -124,17 +103,3 @@ module _ (I O : ℕ) (cells : List Cell) (order : List ℕ) (o : Ordered cells o
         ext a b (λ j. shows-by a n p v (q .solves) (signalNo j) ∙ sym (q .shows (signalNo j))),
         ext n m (λ j. keeps-by a n p v (q .solves) j ∙ sym (q .keeps j)),
       )
-
-  -- two answers to one event are equal
-  pub one-answer : (r r′ : Reaction) → Reacts I O cells state event r → Reacts I O cells state event r′ → r ≡ r′
-  one-answer r r′ (event-refused e) (event-refused e′) = refl
-  one-answer r r′ (event-refused e) (state-refused e′ s′) = absurd (clash e′ e)
-  one-answer r r′ (event-refused e) (reacted e′ s′ k′) = absurd (clash e′ e)
-  one-answer r r′ (state-refused e s) (event-refused e′) = absurd (clash e e′)
-  one-answer r r′ (state-refused e s) (state-refused e′ s′) = refl
-  one-answer r r′ (state-refused e s) (reacted e′ s′ k′) = absurd (clash s′ s)
-  one-answer r r′ (reacted e s k) (event-refused e′) = absurd (clash e e′)
-  one-answer r r′ (reacted e s k) (state-refused e′ s′) = absurd (clash s s′)
-  one-answer r r′ (reacted {outputs = a} {next = n} e s k) (reacted {outputs = b} {next = m} e′ s′ k′) =
-      let both = one-clock a b n m k k′ in
-      rw (both .0, both .1)

@@ -10,12 +10,14 @@ use lib.Seq.{getD-set-same, getD-set-other}
 use Rattle.number.specs.Counts.{cellNo, ofCell}
 use Rattle.number.specs.declared.CellNo.{CellNo}
 use Rattle.number.specs.declared.SignalNo.{SignalNo}
-use Rattle.gates.specs.declared.Cell.{Cell}
-use Rattle.gates.specs.Values.{before, cellAt, value, Solves}
-use Rattle.order.specs.Paths.{IsCell, placed, Ordered}
+use Rattle.cells.specs.declared.Cell.{Cell}
+use Rattle.cells.specs.Cells.{cellAt}
+use Rattle.cells.specs.Values.{before, value, Solves}
+use Rattle.cells.specs.Needs.{IsCell}
+use Rattle.order.specs.Paths.{placed, Ordered}
 use Rattle.run.specs.React.{netsIn}
 use Rattle.run.proofs.Rank.{past-end}
-use Rattle.run.proofs.One.{value-same}
+use Rattle.cells.proofs.Needing.{value-same}
 
 -- a store changes one net
 net-other : (values : List Bool) (i : ℕ) (b : Bool) (x : CellNo) → (ofCell x ≡ i → ⊥) → netsIn (set values i b) x ≡ netsIn values x

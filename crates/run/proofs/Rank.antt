@@ -7,10 +7,11 @@ use native.Mathlib.Decide.{decLt}
 use lib.ListN.{length, List·getD-eq-default}
 use Rattle.number.specs.Counts.{ofCell}
 use Rattle.number.specs.declared.CellNo.{CellNo}
-use Rattle.gates.specs.declared.Cell.{Cell}
-use Rattle.gates.specs.declared.Cell.the-variants.{Low}
-use Rattle.gates.specs.Values.{cellAt}
-use Rattle.order.specs.Paths.{IsCell, pinsOf, Among, Needs, placed, Ordered}
+use Rattle.cells.specs.declared.Cell.{Cell}
+use Rattle.cells.specs.declared.Cell.the-variants.{Low}
+use Rattle.cells.specs.Cells.{cellAt}
+use Rattle.cells.specs.Needs.{IsCell, pinsOf, Among, Needs}
+use Rattle.order.specs.Paths.{placed, Ordered}
 
 -- what a cell needs ranks below it
 abbrev pub Ranked : (CellNo → ℕ) → List Cell → Type 0

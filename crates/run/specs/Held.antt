@@ -6,8 +6,9 @@ use Prim.Native.Nat.{ℕ}
 use Rattle.number.specs.Number.{pick}
 use Rattle.number.specs.declared.CellNo.{CellNo}
 use Rattle.number.specs.declared.SignalNo.{SignalNo}
-use Rattle.gates.specs.declared.Cell.{Cell}
-use Rattle.gates.specs.Values.{before, cellAt, value}
+use Rattle.cells.specs.declared.Cell.{Cell}
+use Rattle.cells.specs.Cells.{cellAt}
+use Rattle.cells.specs.Values.{before, value}
 
 -- a net that is held has its value of h, and every other the value that its cell asks for
 abbrev pub SolvesHeld : (CellNo → Bool) → (CellNo → Bool) → (SignalNo → Bool) → (ℕ → Bool) → List Cell → (CellNo → Bool) → Type 0

@@ -1,4 +1,4 @@
--- The reaction of a netlist.
+-- One clock of a netlist: that is to be believed. What stands below it is not: what the code keeps to, and the proofs check.
 use mathlib.Core.Path.{_≡_}
 use mathlib.Core.Bool.{Bool, true, false, _&&_}
 use mathlib.Core.List.{List, [], _∷_}
@@ -6,18 +6,15 @@ use Prim.Native.Nat.{ℕ, _+_, _≤_}
 use lib.Dec.{ltb}
 use lib.ListN.{length, getD, take}
 use Rattle.number.specs.Counts.{cellNo, ofCell}
-use Rattle.number.specs.Refusals.{fault}
 use Rattle.number.specs.declared.CellNo.{CellNo}
 use Rattle.number.specs.declared.SignalNo.{SignalNo}
-use Rattle.number.specs.declared.Refusal.the-variants.{Event, State}
 use Rattle.bits.specs.Bits.{has, signalsIn}
-use Rattle.gates.specs.declared.Cell.{Cell}
-use Rattle.gates.specs.declared.Cell.the-variants.{Low, High, Input, Or, And, Butnot, Register}
-use Rattle.gates.specs.Values.{before, Solves, registers, nextOf}
-use Rattle.order.specs.Paths.{IsCell, Closed, Ordered}
-use Rattle.run.specs.declared.Reaction.{Reaction}
-use Rattle.run.specs.declared.Reaction.the-variants.{Refused, Reacted}
-use Rattle.run.specs.Words.{eventOk, stateOk, outputsOf}
+use Rattle.limits.specs.Limits.{maxSignals, maxRegisters}
+use Rattle.cells.specs.declared.Cell.{Cell}
+use Rattle.cells.specs.Values.{before, Solves, registers, operandsOf, nextOf}
+use Rattle.cells.specs.Needs.{IsCell, Closed}
+use Rattle.order.specs.Paths.{Ordered}
+use Rattle.run.specs.Words.{outputsOf}
 
 -- one clock: the nets' values solve the cells with the event's inputs in this state, and give the outputs and the next state. "Registers in cell
 -- order are bits 0, 1, .. of the state."
@@ -26,15 +23,6 @@ pub record Clock (I O : ℕ) (cells : List Cell) (state event outputs next : ℕ
   pub solves : Solves (signalsIn event) (has state) cells values
   pub shows : (s : SignalNo) → signalsIn outputs s ≡ outputsOf I O values s
   pub keeps : (b : ℕ) → has next b ≡ nextOf values cells b
-
--- "a netlist the outputs, signal s at bit s, and both the next state; 13 comes before 14, and any refusal returns the state handed in"
--- A refusal has no outputs here: where an answer gives them as a word, "a refusal's counts and outputs are 0".
-pub data Reacts (I O : ℕ) (cells : List Cell) (state event : ℕ) : Reaction → Type 0 where
-  event-refused : eventOk I event ≡ false → Reacts I O cells state event (Refused (fault Event 0) state)
-  state-refused : eventOk I event ≡ true → stateOk (registers cells) state ≡ false
-      → Reacts I O cells state event (Refused (fault State 0) state)
-  reacted : {outputs next : ℕ} → eventOk I event ≡ true → stateOk (registers cells) state ≡ true
-      → Clock I O cells state event outputs next → Reacts I O cells state event (Reacted outputs next)
 
 -- the values of the nets in a column
 abbrev pub netsIn : List Bool → CellNo → Bool
@@ -45,7 +33,7 @@ netsIn values x = getD values (ofCell x) false
 pub record Judged (cells : List Cell) (values : List Bool) : Type 0 where
   pub closed : Closed cells
   pub few : length cells ≤ 65536
-  pub bits : registers cells ≤ 64
+  pub bits : registers cells ≤ maxRegisters
   pub long : length values ≡ length cells
 
 -- it was ordered too
@@ -56,7 +44,7 @@ pub record Ready (cells : List Cell) (order : List ℕ) (values : List Bool) : T
 
 -- "At most: .. 64 signals with tick", and of n cells there is one for each input and output
 pub record HasSignals (I O n : ℕ) : Type 0 where
-  pub few : 1 + I + O ≤ 64
+  pub few : 1 + I + O ≤ maxSignals
   pub enough : 2 + I + O ≤ n
 
 -- a netlist that was judged and ordered
@@ -65,20 +53,9 @@ pub record Prepared (I O : ℕ) (cells : List Cell) (order : List ℕ) (values :
   pub signals : HasSignals I O (length cells)
 
 -- "Registers in cell order are bits 0, 1, .. of the state." is worked out once too: for each cell the bit that it is, if it is a register ..
-pub record Numbered (cells : List Cell) (bits : List ℕ) : Type 0 where
-  pub places : length cells ≤ length bits
-  pub bit : (x : CellNo) → IsCell cells x → getD bits (ofCell x) 0 ≡ before cells x
-
--- .. and the registers' operands in cell order
-unfoldable pub operandsOf : List Cell → List ℕ
-operandsOf [] = []
-operandsOf (Low ∷ cs) = operandsOf cs
-operandsOf (High ∷ cs) = operandsOf cs
-operandsOf (Input s ∷ cs) = operandsOf cs
-operandsOf (Or x y ∷ cs) = operandsOf cs
-operandsOf (And x y ∷ cs) = operandsOf cs
-operandsOf (Butnot x y ∷ cs) = operandsOf cs
-operandsOf (Register x ∷ cs) = ofCell x ∷ operandsOf cs
+pub record Numbered (cells : List Cell) (places : List ℕ) : Type 0 where
+  pub long : length cells ≤ length places
+  pub bit : (x : CellNo) → IsCell cells x → getD places (ofCell x) 0 ≡ before cells x
 
 -- the state that operands feed
 abbrev pub fed : List ℕ → (CellNo → Bool) → ℕ → Bool

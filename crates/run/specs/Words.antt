@@ -1,16 +1,12 @@
--- Events, states and outputs as words.
+-- Events, states and outputs as sets.
 use mathlib.Core.Bool.{Bool, not, _&&_}
-use Prim.Native.Nat.{ℕ, _+_, _/_, _^_}
-use lib.Dec.{eqb, ltb, leb}
-use Rattle.gates.specs.Cells.{signalCell}
+use Prim.Native.Nat.{ℕ, _+_}
+use lib.Dec.{ltb, leb}
+use Rattle.cells.specs.Cells.{signalCell}
 use Rattle.number.specs.Counts.{ofSignal}
 use Rattle.number.specs.declared.CellNo.{CellNo}
 use Rattle.number.specs.declared.SignalNo.{SignalNo}
-use Rattle.bits.specs.Bits.{has}
-
--- no bit from k on
-unfoldable pub noneFrom : ℕ → ℕ → Bool
-noneFrom k w = eqb (w / 2 ^ k) 0
+use Rattle.bits.specs.Bits.{has, noneFrom}
 
 -- "EVENT: a bit outside 1..I": bit 0, tick, is outside too
 abbrev pub eventOk : ℕ → ℕ → Bool

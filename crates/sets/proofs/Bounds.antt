@@ -9,6 +9,7 @@ use borrow.Author.Tests.{lt-ltb, le-ltb}
 use Rattle.number.specs.declared.StmtNo.{StmtNo}
 use Rattle.number.specs.declared.HaltNo.{HaltNo}
 use Rattle.number.specs.Counts.{ofHalt}
+use Rattle.limits.specs.Limits.{maxTraps, maxCodes}
 use Rattle.sheet.specs.declared.Leaf.the-variants.{Nothing, Halt, Emit, Exit}
 use Rattle.sheet.specs.declared.Unary.the-variants.{Loop, Watching, Trap, Signal}
 use Rattle.sheet.specs.declared.Binary.the-variants.{Sequence, Present, Parallel}
@@ -18,7 +19,7 @@ use Rattle.sheet.proofs.Notions.{Exits}
 use Rattle.sheet.proofs.Walk.{first-of, past-of}
 use Rattle.sets.specs.Codes.{Codes, empty, same, join, when, maxima, replaced, less0, with0, caughtCodes}
 use Rattle.sets.specs.Static.{K, R, hasHalts}
-use Rattle.sets.specs.Words.{codeCount, Low}
+use Rattle.sets.specs.Words.{Low}
 
 -- every code of A is below n
 abbrev pub Bounded : ℕ → Codes → Type 0
@@ -75,33 +76,33 @@ module _ (n : ℕ) where
       bounded-join (maxima Rp Rq) (join (when (Kq 0 || Rq 0) Rp) (when (Kp 0 || Rp 0) Rq)) (bounded-maxima Rp Rq p q) alone
 
 -- where no exit's level is above 9, no code is
-pub K-low : (t : Stmt) → Low t → Bounded codeCount (K t)
+pub K-low : (t : Stmt) → Low t → Bounded maxCodes (K t)
 unfolding K Low
-K-low (leaf Nothing) l = bounded-same 10 0 (omega arith)
-K-low (leaf (Halt h)) l = bounded-same 10 1 (omega arith)
-K-low (leaf (Emit s)) l = bounded-same 10 0 (omega arith)
-K-low (two Sequence p q) l = bounded-replaced 10 (K p) (K q) (K-low p (l .0)) (K-low q (l .1))
-K-low (one Loop p) l = bounded-less0 10 (K p) (K-low p l)
-K-low (two (Present s) p q) l = bounded-join 10 (K p) (K q) (K-low p (l .0)) (K-low q (l .1))
+K-low (leaf Nothing) l = bounded-same maxCodes 0 (omega arith)
+K-low (leaf (Halt h)) l = bounded-same maxCodes 1 (omega arith)
+K-low (leaf (Emit s)) l = bounded-same maxCodes 0 (omega arith)
+K-low (two Sequence p q) l = bounded-replaced maxCodes (K p) (K q) (K-low p (l .0)) (K-low q (l .1))
+K-low (one Loop p) l = bounded-less0 maxCodes (K p) (K-low p l)
+K-low (two (Present s) p q) l = bounded-join maxCodes (K p) (K q) (K-low p (l .0)) (K-low q (l .1))
 K-low (one (Watching s) p) l = K-low p l
-K-low (two Parallel p q) l = bounded-maxima 10 (K p) (K q) (K-low p (l .0)) (K-low q (l .1))
-K-low (one Trap p) l = bounded-caught 10 (K p) (omega arith) (bounded-more 11 (K p) (omega arith) (K-low p l))
-K-low (leaf (Exit k)) l = bounded-same 10 k l
+K-low (two Parallel p q) l = bounded-maxima maxCodes (K p) (K q) (K-low p (l .0)) (K-low q (l .1))
+K-low (one Trap p) l = bounded-caught maxCodes (K p) (omega arith) (bounded-more (suc maxCodes) (K p) (omega arith) (K-low p l))
+K-low (leaf (Exit k)) l = bounded-same maxCodes k l
 K-low (one (Signal s) p) l = K-low p l
 
-pub R-low : (t : Stmt) → Low t → Bounded codeCount (R t)
+pub R-low : (t : Stmt) → Low t → Bounded maxCodes (R t)
 unfolding R Low
-R-low (leaf Nothing) l = bounded-empty 10
-R-low (leaf (Halt h)) l = bounded-same 10 1 (omega arith)
-R-low (leaf (Emit s)) l = bounded-empty 10
-R-low (leaf (Exit k)) l = bounded-empty 10
+R-low (leaf Nothing) l = bounded-empty maxCodes
+R-low (leaf (Halt h)) l = bounded-same maxCodes 1 (omega arith)
+R-low (leaf (Emit s)) l = bounded-empty maxCodes
+R-low (leaf (Exit k)) l = bounded-empty maxCodes
 R-low (two Sequence p q) l =
-    bounded-join 10 (replaced (R p) (K q)) (R q) (bounded-replaced 10 (R p) (K q) (R-low p (l .0)) (K-low q (l .1))) (R-low q (l .1))
-R-low (one Loop p) l = bounded-replaced 10 (R p) (less0 (K p)) (R-low p l) (bounded-less0 10 (K p) (K-low p l))
-R-low (two (Present s) p q) l = bounded-join 10 (R p) (R q) (R-low p (l .0)) (R-low q (l .1))
-R-low (one (Watching s) p) l = bounded-when 10 (hasHalts p) (with0 (R p)) (bounded-with0 10 (R p) (omega arith) (R-low p l))
-R-low (two Parallel p q) l = bounded-parallel 10 (K p) (R p) (K q) (R q) (R-low p (l .0)) (R-low q (l .1))
-R-low (one Trap p) l = bounded-caught 10 (R p) (omega arith) (bounded-more 11 (R p) (omega arith) (R-low p l))
+    bounded-join maxCodes (replaced (R p) (K q)) (R q) (bounded-replaced maxCodes (R p) (K q) (R-low p (l .0)) (K-low q (l .1))) (R-low q (l .1))
+R-low (one Loop p) l = bounded-replaced maxCodes (R p) (less0 (K p)) (R-low p l) (bounded-less0 maxCodes (K p) (K-low p l))
+R-low (two (Present s) p q) l = bounded-join maxCodes (R p) (R q) (R-low p (l .0)) (R-low q (l .1))
+R-low (one (Watching s) p) l = bounded-when maxCodes (hasHalts p) (with0 (R p)) (bounded-with0 maxCodes (R p) (omega arith) (R-low p l))
+R-low (two Parallel p q) l = bounded-parallel maxCodes (K p) (R p) (K q) (R q) (R-low p (l .0)) (R-low q (l .1))
+R-low (one Trap p) l = bounded-caught maxCodes (R p) (omega arith) (bounded-more (suc maxCodes) (R p) (omega arith) (R-low p l))
 R-low (one (Signal s) p) l = R-low p l
 
 -- "one net for each code up to 1+d": under d traps no code is above 1+d
@@ -139,7 +140,7 @@ R-bound d (one Trap p) x =
 R-bound d (one (Signal s) p) x = R-bound d p (x .1)
 
 -- a sheet's statements are such: at most 8 traps one in another
-pub exits-low : (d : ℕ) (t : Stmt) → d ≤ 8 → Exits d t → Low t
+pub exits-low : (d : ℕ) (t : Stmt) → d ≤ maxTraps → Exits d t → Low t
 unfolding Exits Low
 exits-low d (leaf Nothing) few x = tt
 exits-low d (leaf (Halt h)) few x = tt

@@ -3,12 +3,13 @@
 use mathlib.Core.Path.{_≡_, refl, sym, _∙_}
 use mathlib.Core.Bool.{Bool, true, false, _&&_, _||_, and-false, or-false}
 use mathlib.Core.List.{List, [], _∷_, _++_, map}
-use Prim.Native.Nat.{ℕ, zero, suc, _+_, _<_}
+use Prim.Native.Nat.{ℕ, zero, suc, _+_, _-_, _<_}
 use native.Mathlib.Omega.{arith}
 use lib.Dec.{ltb}
 use borrow.Author.Tests.{lt-ltb}
 use Rattle.number.specs.declared.StmtNo.{StmtNo}
 use Rattle.number.specs.Number.{pick}
+use Rattle.limits.specs.Limits.{maxCodes}
 use Rattle.sheet.specs.declared.Unary.the-variants.{Loop, Watching, Trap, Signal}
 use Rattle.sheet.specs.declared.Binary.the-variants.{Sequence, Present, Parallel}
 use Rattle.sheet.specs.Stmt.{Stmt, leaf, one, two, size}
@@ -18,9 +19,9 @@ use Rattle.sets.specs.declared.Found.the-variants.{At, Clear}
 use Rattle.sets.specs.Codes.{Codes, empty, join, when, upto, maxima, replaced, with0, caughtCodes}
 use Rattle.sets.specs.Static.{K, R}
 use Rattle.sets.specs.Faults.{orElse, Climb, through, looped, besides, climbs, firstFault, twice}
-use Rattle.sets.specs.Words.{codeCount, Low}
+use Rattle.sets.specs.Words.{Low}
 use Rattle.sets.specs.Leads.{some, both, meet, downto, atLeast, leadsSequence, leadsTrap, leadsParallel, leadsOne, leadsLeft, leadsRight, firstLed}
-use Rattle.sets.proofs.Bools.{taut}
+use Rattle.number.proofs.Bools.{taut}
 use Rattle.sets.proofs.Bounds.{Bounded, bounded-join, bounded-when, bounded-maxima, bounded-replaced, bounded-more, bounded-caught, K-low, R-low}
 
 -- Some code below n: of sets that agree there, of a join, of a set that is there only where b holds, of one without the code n.
@@ -97,67 +98,69 @@ meet-flip n A F = some-alike n (both A F) (both F A) (λ j h. swap (A j) (F j))
     swap = taut 2 0 _ _ _ tt
 
 -- "As left of a sequence, 0 in C is replaced by K(right)."
-sequence-climb : (C K F : Codes) → meet codeCount (replaced C K) F ≡ meet codeCount C (leadsSequence K F)
+sequence-climb : (C K F : Codes) → meet maxCodes (replaced C K) F ≡ meet maxCodes C (leadsSequence K F)
 unfolding meet some leadsSequence
 sequence-climb C K F =
     let C′ : Codes = λ j. C (suc j) in
     let K′ : Codes = λ j. K (suc j) in
     let F′ : Codes = λ j. F (suc j) in
-    let rest : some 9 (λ j. (C′ j || (C 0 && K′ j)) && F′ j) ≡ (some 9 (both C′ F′) || (C 0 && some 9 (both K′ F′))) =
-    meet-join 9 C′ (when (C 0) K′) F′ ∙ rw (meet-when 9 (C 0) K′ F′) in
-    rw rest (regroup (C 0) (K 0) (F 0) (some 9 (both C′ F′)) (some 9 (both K′ F′)))
+    let n : ℕ = maxCodes - 1 in
+    let rest : some n (λ j. (C′ j || (C 0 && K′ j)) && F′ j) ≡ (some n (both C′ F′) || (C 0 && some n (both K′ F′))) =
+    meet-join n C′ (when (C 0) K′) F′ ∙ rw (meet-when n (C 0) K′ F′) in
+    rw rest (regroup (C 0) (K 0) (F 0) (some n (both C′ F′)) (some n (both K′ F′)))
   where
     regroup : (c k f x y : Bool) → (((c && k) && f) || (x || (c && y))) ≡ ((c && ((k && f) || y)) || x)
     regroup = taut 5 0 _ _ _ tt
 
 -- "A trap maps."
-trap-climb : (C F : Codes) → Bounded codeCount C → meet codeCount (caughtCodes C) F ≡ meet codeCount C (leadsTrap F)
+trap-climb : (C F : Codes) → Bounded maxCodes C → meet maxCodes (caughtCodes C) F ≡ meet maxCodes C (leadsTrap F)
 unfolding meet some
 trap-climb C F low =
     let X : Codes = λ j. C (suc (suc (suc j))) && F (suc (suc j)) in
-    let Y : Codes = λ j. C (suc (suc (suc j))) && (ltb j 7 && F (suc (suc j))) in
-    let last : X 7 ≡ false = rw (low 10 (omega arith)) in
-    let rest : some 8 X ≡ some 7 Y = some-last 7 X last ∙ some-alike 7 X Y (λ j h. rw (lt-ltb j 7 h)) in
-    rw rest (regroup (C 0) (C 1) (C 2) (F 0) (F 1) (some 7 Y))
+    let Y : Codes = λ j. C (suc (suc (suc j))) && (ltb (suc (suc (suc j))) maxCodes && F (suc (suc j))) in
+    let n : ℕ = maxCodes - 3 in
+    let last : X n ≡ false = rw (low maxCodes (omega arith)) in
+    let rest : some (suc n) X ≡ some n Y = some-last n X last ∙ some-alike n X Y (λ j h. rw (lt-ltb (suc (suc (suc j))) maxCodes (omega arith))) in
+    rw rest (regroup (C 0) (C 1) (C 2) (F 0) (F 1) (some n Y))
   where
     regroup : (a b c f g x : Bool) → (((a || c) && f) || ((b && g) || x)) ≡ ((a && f) || ((b && g) || ((c && f) || x)))
     regroup = taut 6 0 _ _ _ tt
 
 -- the larger of two codes is one of F: the other code is at most as large, or it is a common code of R and F at least as large
-above : (C R F : Codes) → meet 10 (atLeast C R) F ≡ meet 10 (atLeast F R) C
+above : (C R F : Codes) → meet maxCodes (atLeast C R) F ≡ meet maxCodes (atLeast F R) C
 unfolding meet
-above C R F = some-alike 10 (both (atLeast C R) F) (both (atLeast F R) C) (λ j h. turn (C j) (upto R j) (F j))
+above C R F = some-alike maxCodes (both (atLeast C R) F) (both (atLeast F R) C) (λ j h. turn (C j) (upto R j) (F j))
   where
     turn : (c u f : Bool) → ((c && u) && f) ≡ ((f && u) && c)
     turn = taut 3 0 _ _ _ tt
 
-below : (C R F : Codes) → meet 10 (atLeast R C) F ≡ meet 10 (downto 10 (both R F)) C
+below : (C R F : Codes) → meet maxCodes (atLeast R C) F ≡ meet maxCodes (downto maxCodes (both R F)) C
 unfolding meet
 below C R F =
-    some-alike 10 (both (atLeast R C) F) (λ j. both R F j && upto C j) (λ j h. turn (R j) (upto C j) (F j))
-    ∙ exchange 10 C (both R F) ∙ meet-flip 10 C (downto 10 (both R F))
+    some-alike maxCodes (both (atLeast R C) F) (λ j. both R F j && upto C j) (λ j h. turn (R j) (upto C j) (F j))
+    ∙ exchange maxCodes C (both R F) ∙ meet-flip maxCodes C (downto maxCodes (both R F))
   where
     turn : (r u f : Bool) → ((r && u) && f) ≡ ((r && f) && u)
     turn = taut 3 0 _ _ _ tt
 
 -- "A parallel takes maxima of C with the sibling's R, and with 0 if the sibling has 0 in K or R."
-parallel-climb : (ended : Bool) (C R F : Codes) → meet codeCount (join (maxima C R) (when ended C)) F ≡ meet codeCount C (leadsParallel ended R F)
+parallel-climb : (ended : Bool) (C R F : Codes) → meet maxCodes (join (maxima C R) (when ended C)) F ≡ meet maxCodes C (leadsParallel ended R F)
 parallel-climb ended C R F =
     let up : Codes = atLeast F R in
-    let down : Codes = downto codeCount (both R F) in
-    let climbed : meet 10 (join (maxima C R) (when ended C)) F ≡ ((meet 10 up C || meet 10 down C) || (ended && meet 10 F C)) =
-    meet-join 10 (maxima C R) (when ended C) F
-    ∙ (λ i. (meet-join 10 (atLeast C R) (atLeast R C) F ∙ (λ j. above C R F j || below C R F j)) i || meet-when 10 ended C F i)
-    ∙ (λ i. (meet 10 up C || meet 10 down C) || (ended && meet-flip 10 C F i)) in
-    let led : meet 10 C (leadsParallel ended R F) ≡ ((meet 10 up C || meet 10 down C) || (ended && meet 10 F C)) =
-    meet-flip 10 C (leadsParallel ended R F) ∙ meet-join 10 (join up down) (when ended F) C
-    ∙ (λ i. meet-join 10 up down C i || meet-when 10 ended F C i) in
+    let down : Codes = downto maxCodes (both R F) in
+    let climbed : meet maxCodes (join (maxima C R) (when ended C)) F ≡ ((meet maxCodes up C || meet maxCodes down C) || (ended && meet maxCodes F C)) =
+    meet-join maxCodes (maxima C R) (when ended C) F
+    ∙ (λ i. (meet-join maxCodes (atLeast C R) (atLeast R C) F ∙ (λ j. above C R F j || below C R F j)) i || meet-when maxCodes ended C F i)
+    ∙ (λ i. (meet maxCodes up C || meet maxCodes down C) || (ended && meet-flip maxCodes C F i)) in
+    let led : meet maxCodes C (leadsParallel ended R F) ≡ ((meet maxCodes up C || meet maxCodes down C) || (ended && meet maxCodes F C)) =
+    meet-flip maxCodes C (leadsParallel ended R F) ∙ meet-join maxCodes (join up down) (when ended F) C
+    ∙ (λ i. meet-join maxCodes up down C i || meet-when maxCodes ended F C i) in
     climbed ∙ sym led
 
 -- "A loop reached with 0 in C is the fault."
-loop-climb : (fault : Bool) (C F : Codes) → ((fault || C 0) || meet codeCount C F) ≡ (fault || meet codeCount C (with0 F))
+loop-climb : (fault : Bool) (C F : Codes) → ((fault || C 0) || meet maxCodes C F) ≡ (fault || meet maxCodes C (with0 F))
 unfolding meet some
-loop-climb fault C F = regroup fault (C 0) (F 0) (some 9 (λ j. C (suc j) && F (suc j)))
+loop-climb fault C F = regroup fault (C 0) (F 0) (some (maxCodes - 1) (λ j. C (suc j) && F (suc j)))
   where
     regroup : (f a x y : Bool) → ((f || a) || ((a && x) || y)) ≡ (f || ((a && true) || y))
     regroup = taut 4 0 _ _ _ tt
@@ -165,13 +168,13 @@ loop-climb fault C F = regroup fault (C 0) (F 0) (some 9 (λ j. C (suc j) && F (
 -- the first climb that is at fault, or comes with a code of F
 unfoldable firstMeeting : Codes → List Climb → Found
 firstMeeting F [] = Clear
-firstMeeting F (c ∷ cs) = pick (c .fault || meet codeCount (c .codes) F) (At (c .at)) (firstMeeting F cs)
+firstMeeting F (c ∷ cs) = pick (c .fault || meet maxCodes (c .codes) F) (At (c .at)) (firstMeeting F cs)
 
 unfoldable AllLow : List Climb → Type 0
 AllLow [] = Unit
-AllLow (c ∷ cs) = Bounded codeCount (c .codes) × AllLow cs
+AllLow (c ∷ cs) = Bounded maxCodes (c .codes) × AllLow cs
 
-first-through : (f : Codes → Codes) (F G : Codes) → ((C : Codes) → Bounded codeCount C → meet codeCount (f C) F ≡ meet codeCount C G)
+first-through : (f : Codes → Codes) (F G : Codes) → ((C : Codes) → Bounded maxCodes C → meet maxCodes (f C) F ≡ meet maxCodes C G)
     → (cs : List Climb) → AllLow cs → firstMeeting F (map (through f) cs) ≡ firstMeeting G cs
 unfolding firstMeeting AllLow
 first-through f F G same [] low = refl
@@ -185,7 +188,7 @@ first-looped F (c ∷ cs) = rw (loop-climb (c .fault) (c .codes) F, first-looped
 first-append : (F : Codes) (xs ys : List Climb) → firstMeeting F (xs ++ ys) ≡ orElse (firstMeeting F xs) (firstMeeting F ys)
 unfolding firstMeeting orElse pick
 first-append F [] ys = refl
-first-append F (c ∷ cs) ys = rw (first-append F cs ys) (go (c .fault || meet codeCount (c .codes) F))
+first-append F (c ∷ cs) ys = rw (first-append F cs ys) (go (c .fault || meet maxCodes (c .codes) F))
   where
     go : (b : Bool)
         → pick b (At (c .at)) (orElse (firstMeeting F cs) (firstMeeting F ys)) ≡ orElse (pick b (At (c .at)) (firstMeeting F cs)) (firstMeeting F ys)
@@ -198,7 +201,7 @@ unfolding AllLow
 low-append [] ys a b = b
 low-append (c ∷ cs) ys a b = (a .0, low-append cs ys (a .1) b)
 
-low-through : (f : Codes → Codes) → ((C : Codes) → Bounded codeCount C → Bounded codeCount (f C)) → (cs : List Climb) → AllLow cs
+low-through : (f : Codes → Codes) → ((C : Codes) → Bounded maxCodes C → Bounded maxCodes (f C)) → (cs : List Climb) → AllLow cs
     → AllLow (map (through f) cs)
 unfolding AllLow
 low-through f keeps [] low = tt
@@ -209,12 +212,12 @@ unfolding AllLow
 low-looped [] low = tt
 low-looped (c ∷ cs) low = (low .0, low-looped cs (low .1))
 
-besides-low : (q : Stmt) → Low q → (C : Codes) → Bounded codeCount C → Bounded codeCount (besides q C)
+besides-low : (q : Stmt) → Low q → (C : Codes) → Bounded maxCodes C → Bounded maxCodes (besides q C)
 besides-low q low C c =
-    bounded-join 10 (maxima C (R q)) (when (K q 0 || R q 0) C) (bounded-maxima 10 C (R q) c (R-low q low)) (bounded-when 10 (K q 0 || R q 0) C c)
+    bounded-join maxCodes (maxima C (R q)) (when (K q 0 || R q 0) C) (bounded-maxima maxCodes C (R q) c (R-low q low)) (bounded-when maxCodes (K q 0 || R q 0) C c)
 
-caught-low : (C : Codes) → Bounded codeCount C → Bounded codeCount (caughtCodes C)
-caught-low C c = bounded-caught 10 C (omega arith) (bounded-more 11 C (omega arith) c)
+caught-low : (C : Codes) → Bounded maxCodes C → Bounded maxCodes (caughtCodes C)
+caught-low C c = bounded-caught maxCodes C (omega arith) (bounded-more (suc maxCodes) C (omega arith) c)
 
 climbs-low : (n : StmtNo) (t : Stmt) → Low t → AllLow (climbs n t)
 unfolding climbs AllLow Low
@@ -227,7 +230,7 @@ climbs-low n (two Sequence p q) low =
     let xs : List Climb = climbs (further n 1) p in
     let replacing : Codes → Codes = λ C. replaced C (K q) in
     low-append (map (through replacing) xs) (climbs (further n (1 + size p)) q)
-    (low-through replacing (λ C c. bounded-replaced 10 C (K q) c (K-low q (low .1))) xs (climbs-low (further n 1) p (low .0)))
+    (low-through replacing (λ C c. bounded-replaced maxCodes C (K q) c (K-low q (low .1))) xs (climbs-low (further n 1) p (low .0)))
     (climbs-low (further n (1 + size p)) q (low .1))
 climbs-low n (two (Present s) p q) low =
     low-append (climbs (further n 1) p) (climbs (further n (1 + size p)) q) (climbs-low (further n 1) p (low .0))
@@ -267,17 +270,17 @@ led-climbs F n (two Parallel p q) low =
     let n₁ : StmtNo = further n 1 in
     let n₂ : StmtNo = further n (1 + size p) in
     let G : Stmt → Codes = λ v. leadsParallel (K v 0 || R v 0) (R v) F in
-    let side : (v : Stmt) (C : Codes) → Bounded codeCount C → meet codeCount (besides v C) F ≡ meet codeCount C (G v) =
+    let side : (v : Stmt) (C : Codes) → Bounded maxCodes C → meet maxCodes (besides v C) F ≡ meet maxCodes C (G v) =
     λ v C c. parallel-climb (K v 0 || R v 0) C (R v) F in
     let left = led-climbs (G q) n₁ p (low .0) ∙ sym (first-through (besides q) F (G q) (side q) (climbs n₁ p) (climbs-low n₁ p (low .0))) in
     let right = led-climbs (G p) n₂ q (low .1) ∙ sym (first-through (besides p) F (G p) (side p) (climbs n₂ q) (climbs-low n₂ q (low .1))) in
     let rest = (λ i. orElse (left i) (right i)) ∙ sym (first-append F (map (through (besides q)) (climbs n₁ p)) (map (through (besides p)) (climbs n₂ q))) in
-    λ i. pick (meet codeCount (R (two Parallel p q)) F) (At n) (rest i)
+    λ i. pick (meet maxCodes (R (two Parallel p q)) F) (At n) (rest i)
 
 -- with no code to meet, that is the first at fault
-meet-empty : (C : Codes) → meet codeCount C empty ≡ false
+meet-empty : (C : Codes) → meet maxCodes C empty ≡ false
 unfolding meet some
-meet-empty C = some-alike codeCount (both C empty) empty (λ j h. and-false (C j))
+meet-empty C = some-alike maxCodes (both C empty) empty (λ j h. and-false (C j))
 
 first-fault : (cs : List Climb) → firstMeeting empty cs ≡ firstFault cs
 unfolding firstMeeting firstFault

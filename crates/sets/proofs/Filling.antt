@@ -16,7 +16,7 @@ use Rattle.sheet.specs.Read.{further}
 use Rattle.sheet.specs.Rows.{rowAt}
 use Rattle.sets.specs.declared.Both.{Both}
 use Rattle.sets.specs.Static.{hasHalts}
-use Rattle.sets.specs.Words.{Stands, entryOf, filled, Means, Wrote, Filled}
+use Rattle.sets.specs.Words.{codeSpan, Stands, entryOf, filled, Means, Wrote, Filled}
 use Rattle.sets.proofs.Bounds.{halts-row}
 use Rattle.sets.proofs.Columns.{entry-is}
 use Rattle.sets.proofs.Standing.{OnePart, TwoParts, stands-leaf, stands-one, stands-two}
@@ -62,7 +62,7 @@ module _ {rows : List ℕ} {n : StmtNo} (s : Stands rows n) where
   unfolding filled
   one-filled {b = b} {before = before} e went own w =
       let k : OnePart s _ = stands-one s e in
-      let entry : b .k + 1024 * b .r ≡ entryOf (one _ (k .part .stmt)) = entry-is b (s .stmt) (s .low) own ∙ ap entryOf (k .is) in
+      let entry : b .k + codeSpan * b .r ≡ entryOf (one _ (k .part .stmt)) = entry-is b (s .stmt) (s .low) own ∙ ap entryOf (k .is) in
       record {
         answer = rw (w .same) own;
         column = w .entry ∙ (λ i. set (went (k .part) .column i) (ofStmt n) (entry i)) ∙ sym (ap (filled before n) (k .is));
@@ -76,7 +76,7 @@ module _ {rows : List ℕ} {n : StmtNo} (s : Stands rows n) where
       let k : TwoParts s _ = stands-two s e in
       let left : Stmt = k .left .stmt in
       let right : Stmt = k .right .stmt in
-      let entry : c .k + 1024 * c .r ≡ entryOf (two _ left right) = entry-is c (s .stmt) (s .low) own ∙ ap entryOf (k .is) in
+      let entry : c .k + codeSpan * c .r ≡ entryOf (two _ left right) = entry-is c (s .stmt) (s .low) own ∙ ap entryOf (k .is) in
       let parts : last ≡ filled (filled before (further n 1) left) (further n (1 + size left)) right =
       second (k .right) .column ∙ (λ i. filled (first (k .left) .column i) (k .second i) right) in
       record {

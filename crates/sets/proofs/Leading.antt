@@ -1,7 +1,7 @@
 -- The codes that lead to a fault, as words.
 use mathlib.Core.Path.{_≡_, refl, sym, _∙_, fun-ext}
 use mathlib.Core.Bool.{Bool, true, false, _&&_, _||_}
-use Prim.Native.Nat.{ℕ, zero, suc, _+_, _*_, _/_, _%_, _^_, _<_}
+use Prim.Native.Nat.{ℕ, zero, suc, _+_, _-_, _*_, _/_, _%_, _^_, _<_}
 use native.Mathlib.Omega.{arith}
 use native.Mathlib.Decide.{decLt}
 use lib.Dec.{ltb}
@@ -9,11 +9,12 @@ use lib.Pow.{field, mod-mod-pow}
 use borrow.Author.Tests.{lt-ltb, le-ltb}
 use Rattle.bits.specs.Bits.{has}
 use Rattle.bits.proofs.Laws.{empty as has-empty}
+use Rattle.limits.specs.Limits.{maxCodes}
 use Rattle.sheet.specs.declared.Binary.the-variants.{Sequence, Parallel}
 use Rattle.sheet.specs.Stmt.{Stmt}
 use Rattle.sets.specs.declared.Both.{Both}
 use Rattle.sets.specs.Codes.{Codes, join, when, less0, with0}
-use Rattle.sets.specs.Words.{codeCount, Means}
+use Rattle.sets.specs.Words.{codeSpan, Means}
 use Rattle.sets.specs.Leads.{both, meet, downto, atLeast, leadsSequence, leadsTrap, leadsParallel, leadsLeft, leadsRight}
 use Rattle.sets.proofs.Words.{has-zero, has-suc, by-bits}
 use Rattle.sets.proofs.Meaning.{Joined}
@@ -42,19 +43,27 @@ four-parts : (x y z r : ℕ) → x < 2 → y < 2 → z < 2 → ((x + y * 2 + z *
     × ((x + y * 2 + z * 4 + r * 8) / 2 / 2 % 2 ≡ z) × ((x + y * 2 + z * 4 + r * 8) / 2 / 2 / 2 ≡ r)
 four-parts x y z r hx hy hz = (omega arith, omega arith, omega arith, omega arith)
 
-pub trap-leads : (f : ℕ) → has (f % 2 + f / 2 % 2 * 2 + f % 2 * 4 + f / 4 % 128 * 8) ≡ leadsTrap (has f)
+level-there : (j : ℕ) → ltb j (maxCodes - 3) ≡ ltb (suc (suc (suc j))) maxCodes
+level-there j = go (decLt j (maxCodes - 3))
+  where
+    go : Dec (j < maxCodes - 3) → ltb j (maxCodes - 3) ≡ ltb (suc (suc (suc j))) maxCodes
+    go (yes h) = lt-ltb j (maxCodes - 3) h ∙ sym (lt-ltb (suc (suc (suc j))) maxCodes (omega arith))
+    go (no h) = le-ltb j (maxCodes - 3) (omega arith) ∙ sym (le-ltb (suc (suc (suc j))) maxCodes (omega arith))
+
+pub trap-leads : (f : ℕ) → has (f % 2 + f / 2 % 2 * 2 + f % 2 * 4 + f / 4 % (codeSpan / 8) * 8) ≡ leadsTrap (has f)
 trap-leads f =
-    let w : ℕ = f % 2 + f / 2 % 2 * 2 + f % 2 * 4 + f / 4 % 128 * 8 in
-    let parts = four-parts (f % 2) (f / 2 % 2) (f % 2) (f / 4 % 128) (omega arith) (omega arith) (omega arith) in
+    let levels : ℕ = f / 4 % (codeSpan / 8) in
+    let w : ℕ = f % 2 + f / 2 % 2 * 2 + f % 2 * 4 + levels * 8 in
+    let parts = four-parts (f % 2) (f / 2 % 2) (f % 2) levels (omega arith) (omega arith) (omega arith) in
     let quarter : f / 4 ≡ f / 2 / 2 = omega arith in
-    let rest : has (f / 4 % 128) ≡ (λ j. ltb j 7 && has f (suc (suc j))) =
-    fun-ext λ j. has-mod 7 (f / 4) j ∙ rw (quarter, has-suc f (suc j), has-suc (f / 2) j) in
+    let rest : has levels ≡ (λ j. ltb (suc (suc (suc j))) maxCodes && has f (suc (suc j))) =
+    fun-ext λ j. has-mod (maxCodes - 3) (f / 4) j ∙ rw (level-there j, quarter, has-suc f (suc j), has-suc (f / 2) j) in
     by-bits w (leadsTrap (has f)) (rw (parts .0) (sym (has-zero f)))
     (by-bits (w / 2) (λ j. leadsTrap (has f) (suc j)) (rw (parts .1) (sym (has-suc f 0 ∙ has-zero (f / 2))))
     (by-bits (w / 2 / 2) (λ j. leadsTrap (has f) (suc (suc j))) (rw (parts .2) (sym (has-zero f))) (rw (parts .3) rest)))
 
 -- a sequence's left: the right may start with a code of F, or not
-pub sequence-led : (A F : Codes) → meet codeCount A F ≡ true → with0 F ≡ leadsSequence A F
+pub sequence-led : (A F : Codes) → meet maxCodes A F ≡ true → with0 F ≡ leadsSequence A F
 unfolding leadsSequence
 sequence-led A F e = fun-ext go
   where
@@ -62,7 +71,7 @@ sequence-led A F e = fun-ext go
     go zero = sym e
     go (suc j) = refl
 
-pub sequence-not : (A F : Codes) → meet codeCount A F ≡ false → less0 F ≡ leadsSequence A F
+pub sequence-not : (A F : Codes) → meet maxCodes A F ≡ false → less0 F ≡ leadsSequence A F
 unfolding leadsSequence
 sequence-not A F e = fun-ext go
   where
@@ -71,7 +80,7 @@ sequence-not A F e = fun-ext go
     go (suc j) = refl
 
 -- a side of a parallel
-pub parallel-leads : (A F : Codes) {ended b : Bool} {Up Down With Alone All : Codes} → Up ≡ atLeast F A → Down ≡ downto codeCount (both A F)
+pub parallel-leads : (A F : Codes) {ended b : Bool} {Up Down With Alone All : Codes} → Up ≡ atLeast F A → Down ≡ downto maxCodes (both A F)
     → Joined With Up Down → b ≡ ended → Alone ≡ when b F → Joined All With Alone → All ≡ leadsParallel ended A F
 parallel-leads A F up down with-is b-is alone all =
     fun-ext all ∙ (λ i. join ((fun-ext with-is ∙ (λ j. join (up j) (down j))) i) ((alone ∙ (λ j. when (b-is j) F)) i))

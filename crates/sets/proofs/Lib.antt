@@ -1,4 +1,3 @@
-pub mod Bools
 pub mod Words
 pub mod Meaning
 pub mod Bounds

@@ -1,4 +1,4 @@
--- Where a statement stands whose codes are below ten: what its row says, and that its parts stand so too.
+-- Where a statement stands with no code past the last: what its row says, and that its parts stand so too.
 use mathlib.Core.Path.{_≡_, sym, ap, _∙_}
 use mathlib.Core.List.{List}
 use Prim.Native.Nat.{ℕ, _+_, _<_, _≤_}
@@ -7,6 +7,7 @@ use lib.ListN.{length}
 use Rattle.number.specs.declared.StmtNo.{StmtNo}
 use Rattle.number.specs.declared.HaltNo.{HaltNo}
 use Rattle.number.specs.Counts.{haltNo, stmtNo, ofStmt}
+use Rattle.limits.specs.Limits.{maxStatements}
 use Rattle.sheet.specs.declared.Leaf.{Leaf}
 use Rattle.sheet.specs.declared.Unary.{Unary}
 use Rattle.sheet.specs.declared.Binary.{Binary}
@@ -83,6 +84,6 @@ module _ {rows : List ℕ} {n : StmtNo} (s : Stands rows n) where
       omega arith
 
 -- a whole sheet stands in its rows
-pub stands-proper : (i o : ℕ) (rows : List ℕ) (t : Stmt) → Proper i o t → 256 ≤ length rows → Stands (lay rows (stmtNo 0) (haltNo 0) t) (stmtNo 0)
+pub stands-proper : (i o : ℕ) (rows : List ℕ) (t : Stmt) → Proper i o t → maxStatements ≤ length rows → Stands (lay rows (stmtNo 0) (haltNo 0) t) (stmtNo 0)
 stands-proper i o rows t h room =
     record { first = haltNo 0; stmt = t; holds = holds-proper i o rows t h room; low = exits-low 0 t (omega arith) (proper-exits h) }

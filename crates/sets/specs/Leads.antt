@@ -4,6 +4,7 @@ use mathlib.Core.Bool.{Bool, true, false, _&&_, _||_}
 use mathlib.Core.Path.{_≡_}
 use Prim.Native.Nat.{ℕ, zero, suc, _+_, _^_, _<_}
 use lib.Dec.{ltb}
+use Rattle.limits.specs.Limits.{maxCodes}
 use Rattle.bits.specs.Bits.{has}
 use Rattle.number.specs.declared.StmtNo.{StmtNo}
 use Rattle.number.specs.Number.{pick}
@@ -20,7 +21,6 @@ use Rattle.sets.specs.declared.Found.the-variants.{At, Clear}
 use Rattle.sets.specs.Codes.{Codes, join, when, upto, with0}
 use Rattle.sets.specs.Static.{K, R}
 use Rattle.sets.specs.Faults.{orElse}
-use Rattle.sets.specs.Words.{codeCount}
 
 -- some code below n is in A; in both A and B
 unfoldable pub some : ℕ → Codes → Bool
@@ -50,19 +50,19 @@ atLeast A B j = A j && upto B j
 
 -- the codes that lead to F from the left of a sequence: 0, where the right may start with one of F, and those of F besides 0
 unfoldable pub leadsSequence : Codes → Codes → Codes
-leadsSequence K F zero = meet codeCount K F
+leadsSequence K F zero = meet maxCodes K F
 leadsSequence K F (suc j) = F (suc j)
 
--- from a trap's body: the codes that the trap takes to one of F
+-- from a trap's body: the codes, of those that there are, which the trap takes to one of F
 abbrev pub leadsTrap : Codes → Codes
 leadsTrap F zero = F 0
 leadsTrap F (suc zero) = F 1
 leadsTrap F (suc (suc zero)) = F 0
-leadsTrap F (suc (suc (suc j))) = ltb j 7 && F (suc (suc j))
+leadsTrap F (suc (suc (suc j))) = ltb (suc (suc (suc j))) maxCodes && F (suc (suc j))
 
 -- from a side of a parallel whose other side resumes with R, and may stand ended or not: the codes with which the larger is one of F
 abbrev pub leadsParallel : Bool → Codes → Codes → Codes
-leadsParallel ended R F = join (join (atLeast F R) (downto codeCount (both R F))) (when ended F)
+leadsParallel ended R F = join (join (atLeast F R) (downto maxCodes (both R F))) (when ended F)
 
 -- from the part of a statement with one part, and from the left and the right of one with two
 unfoldable pub leadsOne : Unary → Codes → Codes
@@ -102,7 +102,7 @@ isX (Two Parallel) = true
 -- the first X of the statement with the number n that has a code of F in its R, F being what leads on from each part
 unfoldable pub firstLed : Codes → StmtNo → Stmt → Found
 firstLed F n (leaf l) = Clear
-firstLed F n (one u p) = pick (isX (One u) && meet codeCount (R (one u p)) F) (At n) (firstLed (leadsOne u F) (further n 1) p)
+firstLed F n (one u p) = pick (isX (One u) && meet maxCodes (R (one u p)) F) (At n) (firstLed (leadsOne u F) (further n 1) p)
 firstLed F n (two b p q) =
-    pick (isX (Two b) && meet codeCount (R (two b p q)) F) (At n)
+    pick (isX (Two b) && meet maxCodes (R (two b p q)) F) (At n)
     (orElse (firstLed (leadsLeft b q F) (further n 1) p) (firstLed (leadsRight b p F) (further n (1 + size p)) q))

@@ -2,11 +2,12 @@
 use mathlib.Core.Path.{_≡_}
 use mathlib.Core.Bool.{Bool, true, false}
 use mathlib.Core.List.{List}
-use Prim.Native.Nat.{ℕ, zero, suc, _+_, _*_, _<_}
+use Prim.Native.Nat.{ℕ, zero, suc, _+_, _*_, _^_, _<_}
 use lib.ListN.{length, getD, set}
 use Rattle.number.specs.declared.StmtNo.{StmtNo}
 use Rattle.number.specs.declared.HaltNo.{HaltNo}
 use Rattle.number.specs.Counts.{ofStmt}
+use Rattle.limits.specs.Limits.{maxCodes}
 use Rattle.bits.specs.Bits.{has}
 use Rattle.sheet.specs.declared.Leaf.{Leaf}
 use Rattle.sheet.specs.declared.Leaf.the-variants.{Nothing, Halt, Emit, Exit}
@@ -17,15 +18,15 @@ use Rattle.sets.specs.declared.Both.{Both}
 use Rattle.sets.specs.Codes.{Codes}
 use Rattle.sets.specs.Static.{K, R}
 
--- "EXIT: level not 2..1+d", "8 traps one in another": the highest level is 9, and a set of codes takes ten bits
-abbrev pub codeCount : ℕ
-codeCount = 10
+-- "EXIT: level not 2..1+d", "8 traps one in another": there are so many codes, and every set of them is below this
+abbrev pub codeSpan : ℕ
+codeSpan = 2 ^ maxCodes
 
 abbrev pub LowLeaf : Leaf → Type 0
 LowLeaf Nothing = Unit
 LowLeaf (Halt h) = Unit
 LowLeaf (Emit s) = Unit
-LowLeaf (Exit k) = k < codeCount
+LowLeaf (Exit k) = k < maxCodes
 
 unfoldable pub Low : Stmt → Type 0
 Low (leaf l) = LowLeaf l
@@ -48,26 +49,26 @@ unfoldable pub wordOf : ℕ → Codes → ℕ
 wordOf zero A = 0
 wordOf (suc n) A = digit (A 0) + 2 * wordOf n (λ j. A (suc j))
 
--- a statement's entry: ten bits for K, ten for R
+-- a statement's entry: a bit for each code of K, then one for each of R
 unfoldable pub entryOf : Stmt → ℕ
-entryOf t = wordOf codeCount (K t) + 1024 * wordOf codeCount (R t)
+entryOf t = wordOf maxCodes (K t) + codeSpan * wordOf maxCodes (R t)
 
 -- the column with the entries of t and its parts put in, from the number n on
 unfoldable pub filled : List ℕ → StmtNo → Stmt → List ℕ
-filled sets n (leaf l) = set sets (ofStmt n) (entryOf (leaf l))
-filled sets n (one u p) = set (filled sets (further n 1) p) (ofStmt n) (entryOf (one u p))
-filled sets n (two b p q) = set (filled (filled sets (further n 1) p) (further n (1 + size p)) q) (ofStmt n) (entryOf (two b p q))
+filled statics n (leaf l) = set statics (ofStmt n) (entryOf (leaf l))
+filled statics n (one u p) = set (filled statics (further n 1) p) (ofStmt n) (entryOf (one u p))
+filled statics n (two b p q) = set (filled (filled statics (further n 1) p) (further n (1 + size p)) q) (ofStmt n) (entryOf (two b p q))
 
 -- the column has the entry of t at n ..
-pub record Entered (sets : List ℕ) (n : StmtNo) (t : Stmt) : Type 0 where
-  pub inside : ofStmt n < length sets
-  pub entry : getD sets (ofStmt n) 0 ≡ entryOf t
+pub record Entered (statics : List ℕ) (n : StmtNo) (t : Stmt) : Type 0 where
+  pub inside : ofStmt n < length statics
+  pub entry : getD statics (ofStmt n) 0 ≡ entryOf t
 
 -- .. and those of its parts after it
 unfoldable pub Kept : List ℕ → StmtNo → Stmt → Type 0
-Kept sets n (leaf l) = Entered sets n (leaf l)
-Kept sets n (one u p) = Entered sets n (one u p) × Kept sets (further n 1) p
-Kept sets n (two b p q) = Entered sets n (two b p q) × Kept sets (further n 1) p × Kept sets (further n (1 + size p)) q
+Kept statics n (leaf l) = Entered statics n (leaf l)
+Kept statics n (one u p) = Entered statics n (one u p) × Kept statics (further n 1) p
+Kept statics n (two b p q) = Entered statics n (two b p q) × Kept statics (further n 1) p × Kept statics (further n (1 + size p)) q
 
 -- two words are K and R of t
 pub record Means (b : Both) (t : Stmt) : Type 0 where
@@ -77,7 +78,7 @@ pub record Means (b : Both) (t : Stmt) : Type 0 where
 -- the entry of two words was written, and they were handed back
 pub record Wrote (n : StmtNo) (b r : Both) (before after : List ℕ) : Type 0 where
   pub same : r ≡ b
-  pub entry : after ≡ set before (ofStmt n) (b .k + 1024 * b .r)
+  pub entry : after ≡ set before (ofStmt n) (b .k + codeSpan * b .r)
 
 -- what a walk that fills the column answers and leaves
 pub record Filled (n : StmtNo) (t : Stmt) (b : Both) (before after : List ℕ) : Type 0 where
@@ -85,7 +86,7 @@ pub record Filled (n : StmtNo) (t : Stmt) (b : Both) (before after : List ℕ) :
   pub column : after ≡ filled before n t
 
 -- what the entry at n says, where it is that of a statement
-pub record Reads (sets : List ℕ) (n : StmtNo) (b : Both) : Type 0 where
-  pub k-small : b .k < 1024
-  pub r-small : b .r < 1024
-  pub means : (t : Stmt) → Low t → Entered sets n t → Means b t
+pub record Reads (statics : List ℕ) (n : StmtNo) (b : Both) : Type 0 where
+  pub k-small : b .k < codeSpan
+  pub r-small : b .r < codeSpan
+  pub means : (t : Stmt) → Low t → Entered statics n t → Means b t

@@ -1,4 +1,5 @@
-// The static sets K and R of every statement, and the first statement at fault. A set of codes is a word with the codes as its bits.
+// The static sets K and R of every statement, and the first statement at fault. A set of codes is a word with the codes as its bits; `statics` is the column of
+// all K and R.
 use number::StmtNo;
 use sheet::Binary;
 use sheet::Head;
@@ -9,13 +10,14 @@ ghost use mathlib.Core.Bool.{_&&_, _||_};
 ghost use Prim.Native.Nat.{ℕ, _^_, _<_, _≤_};
 ghost use lib.ListN.{length};
 ghost use Rattle.number.specs.Counts.{ofStmt};
+ghost use Rattle.limits.specs.Limits.{maxCodes};
 ghost use Rattle.bits.specs.Bits.{has};
 ghost use Rattle.sheet.specs.Stmt.{Stmt, leaf, one, two};
 ghost use Rattle.sheet.specs.declared.Binary.{Binary};
 ghost use Rattle.sets.specs.Codes.{join, when, maxima, replaced, less0, with0, caughtCodes};
 ghost use Rattle.sets.specs.Static.{K, R, hasHalts};
 ghost use Rattle.sets.specs.Faults.{instant, twice};
-ghost use Rattle.sets.specs.Words.{LowLeaf, Low, Stands, Entered, Kept, Means, Wrote, Filled, Reads};
+ghost use Rattle.sets.specs.Words.{codeSpan, LowLeaf, Low, Stands, Entered, Kept, Means, Wrote, Filled, Reads};
 ghost use Rattle.sets.specs.Leads.{meet, UpTo, atLeast, leadsSequence, leadsTrap, leadsParallel, leadsOne, leadsLeft, leadsRight, isLoop, isX, firstLed};
 
 // A statement that is at fault, or that there is none.
@@ -23,6 +25,9 @@ pub enum Found {
     At(StmtNo),
     Clear,
 }
+
+// Every set of codes is below it, so K and R of a statement stand side by side in one word of the column.
+const CODE_SPAN: u64 = 1 << limits::MAX_CODES;
 
 // K and R of a statement.
 pub struct Both {
@@ -206,66 +211,66 @@ fn two_sets(b: Binary, p: Both, q: Both) -> Both
 }
 
 // Writes the entry of statement n, and hands it back.
-fn entered(sets: &mut [u64], n: StmtNo, b: Both) -> Both
-    requires { ⌜ (ofStmt n < length (now sets)) × (b .k < 1024) × (b .r < 1024) ⌝ }
-    ensures { λ r. ⌜ Wrote n b r (now (sets .entry)) (now (sets .exit)) ⌝ }
+fn entered(statics: &mut [u64], n: StmtNo, b: Both) -> Both
+    requires { ⌜ (ofStmt n < length (now statics)) × (b .k < codeSpan) × (b .r < codeSpan) ⌝ }
+    ensures { λ r. ⌜ Wrote n b r (now (statics .entry)) (now (statics .exit)) ⌝ }
 {
     let i = n.number() as usize;
-    sets[i] = b.k + 1024 * b.r;
+    statics[i] = b.k + CODE_SPAN * b.r;
     b
 }
 
 // K and R of the statement n and of all its parts, in one pass: each goes into the column, where later walks read it.
-pub fn fill(rows: &[u64], sets: &mut [u64], n: StmtNo) -> Both
-    requires { ⌜ Stands (now rows) n × (length (now rows) ≤ length (now sets)) ⌝ }
-    ensures { λ r. ⌜ ((s : Stands (now (rows .entry)) n) → Filled n (s .stmt) r (now (sets .entry)) (now (sets .exit))) ⌝ }
+pub fn fill(rows: &[u64], statics: &mut [u64], n: StmtNo) -> Both
+    requires { ⌜ Stands (now rows) n × (length (now rows) ≤ length (now statics)) ⌝ }
+    ensures { λ r. ⌜ ((s : Stands (now (rows .entry)) n) → Filled n (s .stmt) r (now (statics .entry)) (now (statics .exit))) ⌝ }
 {
     let row = sheet::row_at(rows, n);
     let head = row.head;
     let first = sheet::first_part(n);
     match head {
-        Head::Zero(l) => entered(sets, n, leaf_sets(l)),
+        Head::Zero(l) => entered(statics, n, leaf_sets(l)),
         Head::One(u) => {
             let halts = row.first.number() < row.past.number();
-            let p = fill(rows, sets, first);
-            entered(sets, n, one_sets(u, halts, p))
+            let p = fill(rows, statics, first);
+            entered(statics, n, one_sets(u, halts, p))
         }
         Head::Two(b) => {
-            let p = fill(rows, sets, first);
+            let p = fill(rows, statics, first);
             let left = sheet::row_at(rows, first);
-            let q = fill(rows, sets, left.end);
-            entered(sets, n, two_sets(b, p, q))
+            let q = fill(rows, statics, left.end);
+            entered(statics, n, two_sets(b, p, q))
         }
     }
 }
 
 // The entry of statement n.
-pub fn sets_of(sets: &[u64], n: StmtNo) -> Both
-    requires { ⌜ ofStmt n < length (now sets) ⌝ }
-    ensures { λ r. ⌜ Reads (now (sets .entry)) n r ⌝ }
+pub fn sets_of(statics: &[u64], n: StmtNo) -> Both
+    requires { ⌜ ofStmt n < length (now statics) ⌝ }
+    ensures { λ r. ⌜ Reads (now (statics .entry)) n r ⌝ }
 {
     let i = n.number() as usize;
     Both {
-        k: sets[i] % 1024,
-        r: sets[i] / 1024 % 1024,
+        k: statics[i] % CODE_SPAN,
+        r: statics[i] / CODE_SPAN % CODE_SPAN,
     }
 }
 
 // K or R of statement n: the codes that it may give.
-pub fn given(sets: &[u64], n: StmtNo) -> u64
-    requires { ⌜ ofStmt n < length (now sets) ⌝ }
-    ensures { λ r. ⌜ ((t : Stmt) → Low t → Entered (now (sets .entry)) n t → has r ≡ join (K t) (R t)) ⌝ }
+pub fn given(statics: &[u64], n: StmtNo) -> u64
+    requires { ⌜ ofStmt n < length (now statics) ⌝ }
+    ensures { λ r. ⌜ ((t : Stmt) → Low t → Entered (now (statics .entry)) n t → has r ≡ join (K t) (R t)) ⌝ }
 {
-    let b = sets_of(sets, n);
+    let b = sets_of(statics, n);
     bits::join(b.k, b.r)
 }
 
 // Whether statement n has 0 in K or R.
-pub fn may_end(sets: &[u64], n: StmtNo) -> bool
-    requires { ⌜ ofStmt n < length (now sets) ⌝ }
-    ensures { λ r. ⌜ ((t : Stmt) → Low t → Entered (now (sets .entry)) n t → r ≡ (K t 0 || R t 0)) ⌝ }
+pub fn may_end(statics: &[u64], n: StmtNo) -> bool
+    requires { ⌜ ofStmt n < length (now statics) ⌝ }
+    ensures { λ r. ⌜ ((t : Stmt) → Low t → Entered (now (statics .entry)) n t → r ≡ (K t 0 || R t 0)) ⌝ }
 {
-    ends(sets_of(sets, n))
+    ends(sets_of(statics, n))
 }
 
 fn is_loop(u: Unary) -> bool
@@ -290,9 +295,9 @@ fn runs_on(u: Unary, k: u64) -> bool
 }
 
 // INSTANT: the first loop at fault in statement n.
-pub fn first_instant(rows: &[u64], sets: &[u64], n: StmtNo) -> Found
-    requires { ⌜ Stands (now rows) n × (length (now rows) ≤ length (now sets)) ⌝ }
-    ensures { λ r. ⌜ ((s : Stands (now (rows .entry)) n) → Kept (now (sets .entry)) n (s .stmt) → r ≡ instant n (s .stmt)) ⌝ }
+pub fn first_instant(rows: &[u64], statics: &[u64], n: StmtNo) -> Found
+    requires { ⌜ Stands (now rows) n × (length (now rows) ≤ length (now statics)) ⌝ }
+    ensures { λ r. ⌜ ((s : Stands (now (rows .entry)) n) → Kept (now (statics .entry)) n (s .stmt) → r ≡ instant n (s .stmt)) ⌝ }
 {
     let row = sheet::row_at(rows, n);
     let head = row.head;
@@ -300,17 +305,17 @@ pub fn first_instant(rows: &[u64], sets: &[u64], n: StmtNo) -> Found
     match head {
         Head::Zero(_) => Found::Clear,
         Head::One(u) => {
-            let body = sets_of(sets, first);
+            let body = sets_of(statics, first);
             if runs_on(u, body.k) {
                 return Found::At(n);
             }
-            first_instant(rows, sets, first)
+            first_instant(rows, statics, first)
         }
         Head::Two(_) => {
             let left = sheet::row_at(rows, first);
-            match first_instant(rows, sets, first) {
+            match first_instant(rows, statics, first) {
                 Found::At(m) => Found::At(m),
-                Found::Clear => first_instant(rows, sets, left.end),
+                Found::Clear => first_instant(rows, statics, left.end),
             }
         }
     }
@@ -318,7 +323,7 @@ pub fn first_instant(rows: &[u64], sets: &[u64], n: StmtNo) -> Found
 
 // The codes that lead to one of f from the left of a sequence whose right has k as K.
 fn leads_sequence(k: u64, f: u64) -> u64
-    requires { ⌜ k < 1024 ⌝ }
+    requires { ⌜ k < codeSpan ⌝ }
     ensures { λ r. ⌜ has r ≡ leadsSequence (has k) (has f) ⌝ }
 {
     if meets(k, f) {
@@ -327,16 +332,16 @@ fn leads_sequence(k: u64, f: u64) -> u64
     without_0(f)
 }
 
-// .. from a trap's body; no code is above 9.
+// .. from a trap's body; what no code stands for is left out.
 fn leads_trap(f: u64) -> u64
     ensures { λ r. ⌜ has r ≡ leadsTrap (has f) ⌝ }
 {
-    f % 2 + f / 2 % 2 * 2 + f % 2 * 4 + f / 4 % 128 * 8
+    f % 2 + f / 2 % 2 * 2 + f % 2 * 4 + f / 4 % (CODE_SPAN / 8) * 8
 }
 
 // .. from a side of a parallel whose other side is q.
 fn leads_parallel(q: Both, f: u64) -> u64
-    requires { ⌜ q .r < 1024 ⌝ }
+    requires { ⌜ q .r < codeSpan ⌝ }
     ensures { λ r. ⌜ has r ≡ leadsParallel (has (q .k) 0 || has (q .r) 0) (has (q .r)) (has f) ⌝ }
 {
     let with_other = bits::join(at_least(f, q.r), up_to_common(q.r, f));
@@ -355,7 +360,7 @@ fn leads_one(u: Unary, f: u64) -> u64
 }
 
 fn leads_left(b: Binary, q: Both, f: u64) -> u64
-    requires { ⌜ (q .k < 1024) × (q .r < 1024) ⌝ }
+    requires { ⌜ (q .k < codeSpan) × (q .r < codeSpan) ⌝ }
     ensures { λ r. ⌜ ((v : Stmt) → Means q v → has r ≡ leadsLeft b v (has f)) ⌝ }
 {
     match b {
@@ -366,7 +371,7 @@ fn leads_left(b: Binary, q: Both, f: u64) -> u64
 }
 
 fn leads_right(b: Binary, p: Both, f: u64) -> u64
-    requires { ⌜ p .r < 1024 ⌝ }
+    requires { ⌜ p .r < codeSpan ⌝ }
     ensures { λ r. ⌜ ((t : Stmt) → Means p t → has r ≡ leadsRight b t (has f)) ⌝ }
 {
     match b {
@@ -398,8 +403,8 @@ fn is_x(h: Head) -> bool
 
 // Whether it is an X with a code of f in its R.
 fn is_led(h: Head, r: u64, f: u64) -> bool
-    requires { ⌜ r < 1024 ⌝ }
-    ensures { λ led. ⌜ led ≡ (isX h && meet 10 (has r) (has f)) ⌝ }
+    requires { ⌜ r < codeSpan ⌝ }
+    ensures { λ led. ⌜ led ≡ (isX h && meet maxCodes (has r) (has f)) ⌝ }
 {
     if is_x(h) {
         return meets(r, f);
@@ -408,28 +413,28 @@ fn is_led(h: Head, r: u64, f: u64) -> bool
 }
 
 // The first X of statement n with a code that leads to the fault, f being the codes that lead there from n.
-fn first_led(rows: &[u64], sets: &[u64], n: StmtNo, f: u64) -> Found
-    requires { ⌜ Stands (now rows) n × (length (now rows) ≤ length (now sets)) ⌝ }
-    ensures { λ r. ⌜ ((s : Stands (now (rows .entry)) n) → Kept (now (sets .entry)) n (s .stmt) → r ≡ firstLed (has f) n (s .stmt)) ⌝ }
+fn first_led(rows: &[u64], statics: &[u64], n: StmtNo, f: u64) -> Found
+    requires { ⌜ Stands (now rows) n × (length (now rows) ≤ length (now statics)) ⌝ }
+    ensures { λ r. ⌜ ((s : Stands (now (rows .entry)) n) → Kept (now (statics .entry)) n (s .stmt) → r ≡ firstLed (has f) n (s .stmt)) ⌝ }
 {
     let row = sheet::row_at(rows, n);
     let head = row.head;
-    let own = sets_of(sets, n);
+    let own = sets_of(statics, n);
     if is_led(head, own.r, f) {
         return Found::At(n);
     }
     let first = sheet::first_part(n);
     match head {
         Head::Zero(_) => Found::Clear,
-        Head::One(u) => first_led(rows, sets, first, leads_one(u, f)),
+        Head::One(u) => first_led(rows, statics, first, leads_one(u, f)),
         Head::Two(b) => {
             let left = sheet::row_at(rows, first);
-            let q = sets_of(sets, left.end);
-            match first_led(rows, sets, first, leads_left(b, q, f)) {
+            let q = sets_of(statics, left.end);
+            match first_led(rows, statics, first, leads_left(b, q, f)) {
                 Found::At(m) => Found::At(m),
                 Found::Clear => {
-                    let p = sets_of(sets, first);
-                    first_led(rows, sets, left.end, leads_right(b, p, f))
+                    let p = sets_of(statics, first);
+                    first_led(rows, statics, left.end, leads_right(b, p, f))
                 }
             }
         }
@@ -437,9 +442,9 @@ fn first_led(rows: &[u64], sets: &[u64], n: StmtNo, f: u64) -> Found
 }
 
 // TWICE: the first parallel or signal statement at fault in statement n.
-pub fn first_twice(rows: &[u64], sets: &[u64], n: StmtNo) -> Found
-    requires { ⌜ Stands (now rows) n × (length (now rows) ≤ length (now sets)) ⌝ }
-    ensures { λ r. ⌜ ((s : Stands (now (rows .entry)) n) → Kept (now (sets .entry)) n (s .stmt) → r ≡ twice n (s .stmt)) ⌝ }
+pub fn first_twice(rows: &[u64], statics: &[u64], n: StmtNo) -> Found
+    requires { ⌜ Stands (now rows) n × (length (now rows) ≤ length (now statics)) ⌝ }
+    ensures { λ r. ⌜ ((s : Stands (now (rows .entry)) n) → Kept (now (statics .entry)) n (s .stmt) → r ≡ twice n (s .stmt)) ⌝ }
 {
-    first_led(rows, sets, n, bits::EMPTY)
+    first_led(rows, statics, n, bits::EMPTY)
 }

@@ -15,6 +15,7 @@ use Rattle.number.specs.declared.Refusal.the-variants.{Count, Extra}
 use Rattle.number.specs.Counts.{ofSignal, haltNo, ofHalt, stmtNo, ofStmt}
 use Rattle.number.specs.Number.{pick, cursor}
 use Rattle.number.specs.Refusals.{fault}
+use Rattle.limits.specs.Limits.{maxStatements, maxLevel, maxSignals}
 use Rattle.sheet.specs.declared.Leaf.{Leaf}
 use Rattle.sheet.specs.declared.Unary.{Unary}
 use Rattle.sheet.specs.declared.Binary.{Binary}
@@ -24,12 +25,14 @@ use Rattle.sheet.specs.declared.Marks.{Marks}
 use Rattle.sheet.specs.declared.HeadRead.the-variants.{Read, Refused as NoHead}
 use Rattle.sheet.specs.declared.StmtRead.{StmtRead}
 use Rattle.sheet.specs.declared.StmtRead.the-variants.{Next, Refused as Stopped}
+use Rattle.sheet.specs.declared.Counts.{Counts}
 use Rattle.sheet.specs.declared.SheetRead.the-variants.{Read as Accepted, Refused}
 use Rattle.sheet.specs.Stmt.{Stmt, leaf, one, two, headOf, size, haltCount, localCount}
 use Rattle.sheet.specs.Read.{Around, headAt, inside, Outcome, got, refused, andThen, further, parts, readStmt}
 use Rattle.sheet.specs.Read.{SheetOutcome, faulty, rootAround, rootMarks, ended, rootRead, afterOutputs}
 use Rattle.sheet.specs.Rows.{rowOf, haltsOn, packed, lay}
-use Rattle.sheet.specs.Answer.{stmtAnswer, Laid, DidStmt, Noted, sheetAnswer, SheetLaid, DidSheet}
+use Rattle.sheet.specs.Answer.{sheetAnswer}
+use Rattle.sheet.specs.Contract.{stmtAnswer, Laid, DidStmt, Noted, SheetLaid, DidSheet}
 use Rattle.sheet.proofs.Moved.{Moved, moved}
 use Rattle.sheet.proofs.Reading.{step, no-level, too-many, few-statements}
 
@@ -46,8 +49,8 @@ record Gave (n : StmtNo) (a : HaltNo) (o : Outcome) (k : StmtNo) (m : Marks) (K 
   past : k ≡ further n (size stmt)
   rows : K′ ≡ lay K n a stmt
 
-next-is : {n : StmtNo} {a : HaltNo} (o : Outcome) {k : StmtNo} {m : Marks} {r : StmtRead} {K K′ : List ℕ} → DidStmt n a o r K K′ → r ≡ Next k m
-    → Gave n a o k m K K′
+next-is : {n : StmtNo} {a : HaltNo} (o : Outcome) {k : StmtNo} {m : Marks} {r : StmtRead} {K K′ : List ℕ} → DidStmt n a o r K K′
+    → r ≡ Next k m → Gave n a o k m K K′
 unfolding stmtAnswer Laid
 next-is {n} {a} (got t m1) {k} {m} d q =
     let same = d .answer in
@@ -67,9 +70,9 @@ further-on n j k = ap stmtNo (add-assoc (ofStmt n) j k)
 same-halts : {a b : HaltNo} → ofHalt a ≡ ofHalt b → a ≡ b
 same-halts e = ap haltNo e
 
--- the number past a statement that was read is 256 at most
-pub end-few : (left : ℕ) (s : List ℕ) (e : Around) (n : StmtNo) (m : Marks) {a : HaltNo} {k : StmtNo} {m′ : Marks} {r : StmtRead} {K K′ : List ℕ}
-    → DidStmt n a (readStmt left s e n m) r K K′ → r ≡ Next k m′ → ofStmt k ≤ 256
+-- the number past a statement that was read is at most the one past the last
+pub end-few : (left : ℕ) (s : List ℕ) (e : Around) (n : StmtNo) (m : Marks) {a : HaltNo} {k : StmtNo} {m′ : Marks} {r : StmtRead}
+    {K K′ : List ℕ} → DidStmt n a (readStmt left s e n m) r K K′ → r ≡ Next k m′ → ofStmt k ≤ maxStatements
 end-few left s e n m {m′ = m′} d q =
     let g = next-is (readStmt left s e n m) d q in
     rw (g .past) (few-statements left s e n m (g .stmt) m′ (g .outcome))
@@ -89,13 +92,14 @@ module _ (left : ℕ) (s : List ℕ) (e : Around) (n : StmtNo) (m : Marks) where
   pub level-stop : {K K′ : List ℕ} → left ≡ 0 → Did (Stopped (fault Count (m .at))) K K′
   level-stop none = did-stop (no-level left s e n m none)
 
-  -- there are 256 statements before it
-  pub number-stop : {K K′ : List ℕ} → 256 ≤ ofStmt n → Did (Stopped (fault Count (m .at))) K K′
+  -- it is past the last statement
+  pub number-stop : {K K′ : List ℕ} → maxStatements ≤ ofStmt n → Did (Stopped (fault Count (m .at))) K K′
   number-stop many = did-stop (too-many left s e n m many)
 
   -- its row is put in after those of its parts
-  did-note : {end : StmtNo} {m′ : Marks} (t : Stmt) {r : StmtRead} {K K1 K2 : List ℕ} → readStmt left s e n m ≡ got t m′ → end ≡ further n (size t)
-      → set K1 (ofStmt n) (packed (rowOf n (m .halts) t)) ≡ lay K n (m .halts) t → Noted n (headOf t) m end m′ r K1 K2 → Did r K K2
+  did-note : {end : StmtNo} {m′ : Marks} (t : Stmt) {r : StmtRead} {K K1 K2 : List ℕ} → readStmt left s e n m ≡ got t m′
+      → end ≡ further n (size t) → set K1 (ofStmt n) (packed (rowOf n (m .halts) t)) ≡ lay K n (m .halts) t
+      → Noted n (headOf t) m end m′ r K1 K2 → Did r K K2
   unfolding stmtAnswer Laid
   did-note {end} {m′} t {r} {K} {K1} {K2} q past laid d =
       let halts : m′ .halts ≡ haltsOn (m .halts) (haltCount t) = moved left s e n m m′ t q .halts in
@@ -103,7 +107,7 @@ module _ (left : ℕ) (s : List ℕ) (e : Around) (n : StmtNo) (m : Marks) where
       let answer : r ≡ Next (further n (size t)) m′ = rw past at (d .answer) in
       rw q (record { answer = answer; rows = row ∙ laid })
 
-  module _ (some : left ≡ 0 → ⊥) (few : ofStmt n < 256) where
+  module _ (some : left ≡ 0 → ⊥) (few : ofStmt n < maxStatements) where
     -- the head is refused
     pub head-stop : {f : Fault} {K K′ : List ℕ} → headAt s e m ≡ NoHead f → Did (Stopped f) K K′
     unfolding parts
@@ -177,7 +181,8 @@ module _ (left : ℕ) (s : List ℕ) (e : Around) (n : StmtNo) (m : Marks) where
                 let of-whole = halts-passed left s e n m m3 (two b p p2) whole in
                 let start : m1 .halts ≡ m .halts = same-halts (omega (arith, of-first, of-second, of-whole)) in
                 let between : m2 .halts ≡ haltsOn (m .halts) (haltCount p) = same-halts (omega (arith, of-first, of-second, of-whole)) in
-                let end : k ≡ further n (1 + size p + size p2) = g2 .past ∙ ap (λ x. further x (size p2)) place ∙ further-on n (1 + size p) (size p2) in
+                let end : k ≡ further n (1 + size p + size p2) =
+                g2 .past ∙ ap (λ x. further x (size p2)) place ∙ further-on n (1 + size p) (size p2) in
                 did-note (two b p p2) whole end (rw (g2 .rows, g .rows, place, between, start)) (rw is at v)
 
 -- a sheet is refused, whatever was written before
@@ -187,9 +192,9 @@ sheet-stop e = rw e (record { answer = refl; rows = tt })
 
 -- the root of a sheet with i inputs and o outputs, which begins at `at`
 module _ (s : List ℕ) (i o at : ℕ) {r : StmtRead} {K K1 : List ℕ}
-    (d : DidStmt (stmtNo 0) (haltNo 0) (readStmt 64 s (rootAround i o) (stmtNo 0) (rootMarks at i o)) r K K1) where
+    (d : DidStmt (stmtNo 0) (haltNo 0) (readStmt maxLevel s (rootAround i o) (stmtNo 0) (rootMarks at i o)) r K K1) where
   abbrev root : Outcome
-  root = readStmt 64 s (rootAround i o) (stmtNo 0) (rootMarks at i o)
+  root = readStmt maxLevel s (rootAround i o) (stmtNo 0) (rootMarks at i o)
 
   -- it is refused
   pub root-stop : {f : Fault} {K2 : List ℕ} → r ≡ Stopped f → DidSheet (rootRead s i o at) (Refused f) K K2
@@ -203,29 +208,30 @@ module _ (s : List ℕ) (i o at : ℕ) {r : StmtRead} {K K1 : List ℕ}
   root-extra {m = m} q more = sheet-stop (simp (next-is root d q .outcome, lt-ltb (m .at) (length s) more))
 
   -- it is the whole sheet: what was counted is what the statement has
-  pub root-read : {k : StmtNo} {m : Marks} → r ≡ Next k m → length s ≤ m .at
-      → DidSheet (rootRead s i o at)
-      (Accepted (record { inputs = i; outputs = o; statements = ofStmt k; halts = ofHalt (m .halts); signals = ofSignal (m .signals) })) K K1
+  abbrev counted : StmtNo → Marks → Counts
+  counted k m = record { inputs = i; outputs = o; statements = ofStmt k; halts = ofHalt (m .halts); signals = ofSignal (m .signals) }
+
+  pub root-read : {k : StmtNo} {m : Marks} → r ≡ Next k m → length s ≤ m .at → DidSheet (rootRead s i o at) (Accepted (counted k m)) K K1
   unfolding rootRead ended pick sheetAnswer SheetLaid
   root-read {k} {m} q all = go (next-is root d q)
     where
-      go : Gave (stmtNo 0) (haltNo 0) root k m K K1
-          → DidSheet (rootRead s i o at)
-          (Accepted (record { inputs = i; outputs = o; statements = ofStmt k; halts = ofHalt (m .halts); signals = ofSignal (m .signals) })) K K1
+      go : Gave (stmtNo 0) (haltNo 0) root k m K K1 → DidSheet (rootRead s i o at) (Accepted (counted k m)) K K1
       go g =
           let t : Stmt = g .stmt in
-          let passed : Moved (rootMarks at i o) m t = moved 64 s (rootAround i o) (stmtNo 0) (rootMarks at i o) m t (g .outcome) in
+          let passed : Moved (rootMarks at i o) m t = moved maxLevel s (rootAround i o) (stmtNo 0) (rootMarks at i o) m t (g .outcome) in
           let statements : ofStmt k ≡ size t = omega (arith, ap (λ (x : StmtNo). ofStmt x) (g .past)) in
           let halts : ofHalt (m .halts) ≡ haltCount t = omega (arith, ap (λ (x : HaltNo). ofHalt x) (passed .halts)) in
           let signals : ofSignal (m .signals) ≡ 1 + i + o + localCount t = ap (λ (x : SignalNo). ofSignal x) (passed .signals) in
           rw (g .outcome, le-ltb (m .at) (length s) all) (record { answer = rw (statements, halts, signals); rows = g .rows })
 
 -- the header's two numbers: too many signals ..
-pub header-stop : (s : List ℕ) (i o second at : ℕ) → 64 < 1 + i + o → afterOutputs s i second (Value o (cursor at)) ≡ faulty (fault Count second)
+pub header-stop : (s : List ℕ) (i o second at : ℕ) → maxSignals < 1 + i + o
+    → afterOutputs s i second (Value o (cursor at)) ≡ faulty (fault Count second)
 unfolding afterOutputs pick
-header-stop s i o second at many = simp (lt-ltb 64 (1 + i + o) many)
+header-stop s i o second at many = simp (lt-ltb maxSignals (1 + i + o) many)
 
 -- .. or few enough
-pub header-fits : (s : List ℕ) (i o second at : ℕ) → 1 + i + o ≤ 64 → afterOutputs s i second (Value o (cursor at)) ≡ rootRead s i o at
+pub header-fits : (s : List ℕ) (i o second at : ℕ) → 1 + i + o ≤ maxSignals
+    → afterOutputs s i second (Value o (cursor at)) ≡ rootRead s i o at
 unfolding afterOutputs pick
-header-fits s i o second at few = simp (le-ltb 64 (1 + i + o) few)
+header-fits s i o second at few = simp (le-ltb maxSignals (1 + i + o) few)

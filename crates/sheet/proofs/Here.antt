@@ -1,18 +1,15 @@
--- A statement in its place: what its numbers, scopes, levels and limits ask for between the marks before it and those past it, taken apart into
--- its head and its parts. With its bytes (`Stands`) this is all that reading asks for.
+-- A statement in its place: what its numbers, scopes, levels and limits ask for between the marks before it and those past it, taken apart
+-- into its head and its parts. With its bytes (`Stands`) this is all that reading asks for.
 use mathlib.Core.Path.{_≡_, refl, sym}
 use mathlib.Core.List.{List, _++_, append-assoc}
-use Prim.Native.Nat.{ℕ, _+_, _<_, _≤_}
-use native.Mathlib.Omega.{arith}
+use Prim.Native.Nat.{ℕ, _+_, _≤_}
 use Rattle.number.specs.declared.StmtNo.{StmtNo}
 use Rattle.number.specs.Counts.{ofSignal, ofHalt, ofStmt}
 use Rattle.number.specs.Number.{numberBytes}
+use Rattle.limits.specs.Limits.{maxStatements, maxHalts, maxSignals}
 use Rattle.sheet.specs.declared.Leaf.{Leaf}
-use Rattle.sheet.specs.declared.Leaf.the-variants.{Nothing, Halt, Emit, Exit}
 use Rattle.sheet.specs.declared.Unary.{Unary}
-use Rattle.sheet.specs.declared.Unary.the-variants.{Loop, Watching, Trap, Signal}
 use Rattle.sheet.specs.declared.Binary.{Binary}
-use Rattle.sheet.specs.declared.Binary.the-variants.{Sequence, Present, Parallel}
 use Rattle.sheet.specs.declared.Head.{Head}
 use Rattle.sheet.specs.declared.Head.the-variants.{Zero, One, Two}
 use Rattle.sheet.specs.declared.Marks.{Marks}
@@ -30,20 +27,6 @@ operandBytes (Two b) = binaryBytes b
 abbrev pub headBytes : Head → List ℕ
 headBytes h = numberBytes (kindOf h) ++ operandBytes h
 
--- a kind is at most 10, so that it is a number of a sheet
-pub kind-small : (h : Head) → kindOf h < 16384
-kind-small (Zero Nothing) = omega arith
-kind-small (Zero (Halt h)) = omega arith
-kind-small (Zero (Emit s)) = omega arith
-kind-small (Zero (Exit k)) = omega arith
-kind-small (One Loop) = omega arith
-kind-small (One (Watching s)) = omega arith
-kind-small (One Trap) = omega arith
-kind-small (One (Signal s)) = omega arith
-kind-small (Two Sequence) = omega arith
-kind-small (Two (Present s)) = omega arith
-kind-small (Two Parallel) = omega arith
-
 -- what is asked of a head in its place
 abbrev pub HeadPlaced : Around → Marks → Head → Type 0
 HeadPlaced e m (Zero l) = LeafPlaced e (m .halts) l
@@ -52,8 +35,8 @@ HeadPlaced e m (Two b) = BinaryPlaced e b
 
 -- "63 halts, 64 signals with tick": not more were counted
 pub record Within (m : Marks) : Type 0 where
-  pub halts : ofHalt (m .halts) ≤ 63
-  pub signals : ofSignal (m .signals) ≤ 64
+  pub halts : ofHalt (m .halts) ≤ maxHalts
+  pub signals : ofSignal (m .signals) ≤ maxSignals
 
 -- the head h in its place at m; m′ is past it
 pub record HeadHere (e : Around) (m : Marks) (h : Head) (m′ : Marks) : Type 0 where
@@ -64,7 +47,7 @@ pub record HeadHere (e : Around) (m : Marks) (h : Head) (m′ : Marks) : Type 0 
 pub record Here (left : ℕ) (e : Around) (n : StmtNo) (m : Marks) (t : Stmt) (m′ : Marks) : Type 0 where
   pub placed : Placed e (m .halts) (m .signals) t
   pub moved : Moved m m′ t
-  pub statements : ofStmt n + size t ≤ 256
+  pub statements : ofStmt n + size t ≤ maxStatements
   pub nesting : levels t ≤ left
 
 -- a statement's bytes are its head's, then its parts'

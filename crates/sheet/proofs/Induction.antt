@@ -16,6 +16,7 @@ use Rattle.number.specs.declared.Refusal.the-variants.{Count}
 use Rattle.number.specs.Counts.{signalNo, ofSignal, ofHalt, ofStmt}
 use Rattle.number.specs.Number.{numberAt, pick}
 use Rattle.number.specs.Refusals.{fault}
+use Rattle.limits.specs.Limits.{maxStatements, maxHalts, maxSignals, maxTraps}
 use Rattle.sheet.specs.declared.Leaf.{Leaf}
 use Rattle.sheet.specs.declared.Leaf.the-variants.{Nothing, Halt, Emit, Exit}
 use Rattle.sheet.specs.declared.Unary.{Unary}
@@ -30,10 +31,10 @@ use Rattle.sheet.specs.declared.SignalRead.the-variants.{Named, Refused 
 use Rattle.sheet.specs.declared.HeadRead.{HeadRead}
 use Rattle.sheet.specs.declared.HeadRead.the-variants.{Read, Refused as NoHead}
 use Rattle.sheet.specs.Stmt.{Stmt, leaf, one, two, size}
-use Rattle.sheet.specs.Read.{Around, past, signalOf, signalAt, naming, emitting, exiting, haltAt, localAt, trapAt, ofKind, headOfKind, headAt}
+use Rattle.sheet.specs.Read.{Around, past, signalOf, signalAt, naming, emitting, exiting, haltAt, localAt, trapAt}
+use Rattle.sheet.specs.Read.{ofKind, headOfKind, headAt}
 use Rattle.sheet.specs.Read.{Outcome, got, refused, Reader, further, inside, andThen, parts, readStmt}
-use Rattle.sheet.specs.Rows.{haltsOn}
-use Rattle.sheet.specs.Form.{signalsOn}
+use Rattle.sheet.specs.Form.{haltsOn, signalsOn}
 
 -- the operand at m names the signal x; m′ is past it
 pub record Names (s : List ℕ) (e : Around) (m : Marks) (x : SignalNo) (m′ : Marks) : Type 0 where
@@ -45,19 +46,21 @@ pub record Names (s : List ℕ) (e : Around) (m : Marks) (x : SignalNo) (m′ : 
 -- what a head at m was read from, and the tests that it passed; c is past its kind
 pub data HeadIs (s : List ℕ) (e : Around) (m : Marks) (c : Cursor) : Head → Marks → Type 0 where
   nothing : numberAt s (m .at) ≡ Value 0 c → HeadIs s e m c (Zero Nothing) (past m (c .at))
-  halt : numberAt s (m .at) ≡ Value 1 c → ofHalt (m .halts) < 63
+  halt : numberAt s (m .at) ≡ Value 1 c → ofHalt (m .halts) < maxHalts
       → HeadIs s e m c (Zero (Halt (m .halts))) (record { at = c .at; halts = haltsOn (m .halts) 1; signals = m .signals })
   emit : {x : SignalNo} {m′ : Marks} → numberAt s (m .at) ≡ Value 2 c → Names s e (past m (c .at)) x m′ → e .inputs < ofSignal x
       → HeadIs s e m c (Zero (Emit x)) m′
   sequence : numberAt s (m .at) ≡ Value 3 c → HeadIs s e m c (Two Sequence) (past m (c .at))
   loop : numberAt s (m .at) ≡ Value 4 c → HeadIs s e m c (One Loop) (past m (c .at))
-  present : {x : SignalNo} {m′ : Marks} → numberAt s (m .at) ≡ Value 5 c → Names s e (past m (c .at)) x m′ → HeadIs s e m c (Two (Present x)) m′
-  watching : {x : SignalNo} {m′ : Marks} → numberAt s (m .at) ≡ Value 6 c → Names s e (past m (c .at)) x m′ → HeadIs s e m c (One (Watching x)) m′
+  present : {x : SignalNo} {m′ : Marks} → numberAt s (m .at) ≡ Value 5 c → Names s e (past m (c .at)) x m′
+      → HeadIs s e m c (Two (Present x)) m′
+  watching : {x : SignalNo} {m′ : Marks} → numberAt s (m .at) ≡ Value 6 c → Names s e (past m (c .at)) x m′
+      → HeadIs s e m c (One (Watching x)) m′
   parallel : numberAt s (m .at) ≡ Value 7 c → HeadIs s e m c (Two Parallel) (past m (c .at))
-  trap : numberAt s (m .at) ≡ Value 8 c → e .traps < 8 → HeadIs s e m c (One Trap) (past m (c .at))
+  trap : numberAt s (m .at) ≡ Value 8 c → e .traps < maxTraps → HeadIs s e m c (One Trap) (past m (c .at))
   exit : {k : ℕ} {after : Cursor} → numberAt s (m .at) ≡ Value 9 c → numberAt s (c .at) ≡ Value k after → 2 ≤ k → k ≤ 1 + e .traps
       → HeadIs s e m c (Zero (Exit k)) (past m (after .at))
-  local : numberAt s (m .at) ≡ Value 10 c → ofSignal (m .signals) < 64
+  local : numberAt s (m .at) ≡ Value 10 c → ofSignal (m .signals) < maxSignals
       → HeadIs s e m c (One (Signal (m .signals))) (record { at = c .at; halts = m .halts; signals = signalsOn (m .signals) 1 })
 
 -- a claim on what a test picks
@@ -83,7 +86,8 @@ module _ (s : List ℕ) (e : Around) where
     HeadOk (Read h m′) = HeadIs s e m c h m′
     HeadOk (NoHead f) = Unit
 
-    naming-ok : (f : SignalNo → Head) (r : SignalRead) → ((x : SignalNo) (m′ : Marks) → Names s e (past m (c .at)) x m′ → HeadIs s e m c (f x) m′)
+    naming-ok : (f : SignalNo → Head) (r : SignalRead)
+        → ((x : SignalNo) (m′ : Marks) → Names s e (past m (c .at)) x m′ → HeadIs s e m c (f x) m′)
         → SignalOk (past m (c .at)) r → HeadOk (naming f r)
     unfolding naming
     naming-ok f (Named x m′) make k = make x m′ k
@@ -106,7 +110,8 @@ module _ (s : List ℕ) (e : Around) where
     kind-ok : (k : ℕ) → numberAt s (m .at) ≡ Value k c → HeadOk (ofKind s e (m .at) (past m (c .at)) k)
     unfolding ofKind haltAt localAt trapAt
     kind-ok k q =
-        test 0 _ _ nothing (test 1 _ _ halted (test 2 _ _ (λ w. emitting-ok (c .at) (signalAt s e m1) w named) (test 3 _ _ sequence (test 4 _ _ loop
+        test 0 _ _ nothing (test 1 _ _ halted
+        (test 2 _ _ (λ w. emitting-ok (c .at) (signalAt s e m1) w named) (test 3 _ _ sequence (test 4 _ _ loop
         (test 5 _ _ (λ w. naming-ok (λ x. Two (Present x)) (signalAt s e m1) (λ x m′ r. present w r) named)
         (test 6 _ _ (λ w. naming-ok (λ x. One (Watching x)) (signalAt s e m1) (λ x m′ r. watching w r) named) (test 7 _ _ parallel
         (test 8 _ _ trapped (test 9 _ _ (λ w. exiting-ok (numberAt s (c .at)) w refl) (test 10 _ _ declared tt))))))))))
@@ -121,13 +126,15 @@ module _ (s : List ℕ) (e : Around) where
         named = signal-ok m1 (numberAt s (c .at)) refl
 
         halted : numberAt s (m .at) ≡ Value 1 c → HeadOk (haltAt (m .at) m1)
-        halted w = by-test HeadOk (leb 63 (ofHalt (m .halts))) _ _ (λ t. tt) (λ t. halt w (leb-false 63 (ofHalt (m .halts)) t))
+        halted w = by-test HeadOk (leb maxHalts (ofHalt (m .halts))) _ _ (λ t. tt) (λ t. halt w (leb-false maxHalts (ofHalt (m .halts)) t))
 
         trapped : numberAt s (m .at) ≡ Value 8 c → HeadOk (trapAt (m .at) e m1)
-        trapped w = by-test HeadOk (leb 8 (e .traps)) _ _ (λ t. tt) (λ t. trap w (leb-false 8 (e .traps) t))
+        trapped w = by-test HeadOk (leb maxTraps (e .traps)) _ _ (λ t. tt) (λ t. trap w (leb-false maxTraps (e .traps) t))
 
         declared : numberAt s (m .at) ≡ Value 10 c → HeadOk (localAt (m .at) m1)
-        declared w = by-test HeadOk (leb 64 (ofSignal (m .signals))) _ _ (λ t. tt) (λ t. local w (leb-false 64 (ofSignal (m .signals)) t))
+        declared w =
+            by-test HeadOk (leb maxSignals (ofSignal (m .signals))) _ _ (λ t. tt)
+            (λ t. local w (leb-false maxSignals (ofSignal (m .signals)) t))
 
 -- a head that was read
 pub record Headed (s : List ℕ) (e : Around) (m : Marks) (h : Head) (m′ : Marks) : Type 0 where
@@ -145,12 +152,13 @@ headed s e m h m′ q = go (numberAt s (m .at)) refl q
 -- A claim P on readings: `left` levels are left, e holds around the statement, n is its number, m stands before and m′ past it.
 -- It holds of each statement read, if it holds of leaves, and of a statement with parts if of its parts.
 module _ (s : List ℕ) (P : ℕ → Around → StmtNo → Marks → Stmt → Marks → Type 0)
-    (of-leaf : (left : ℕ) (e : Around) (n : StmtNo) (m m1 : Marks) (l : Leaf) → ofStmt n < 256 → Headed s e m (Zero l) m1
+    (of-leaf : (left : ℕ) (e : Around) (n : StmtNo) (m m1 : Marks) (l : Leaf) → ofStmt n < maxStatements → Headed s e m (Zero l) m1
     → P (suc left) e n m (leaf l) m1)
-    (of-one : (left : ℕ) (e : Around) (n : StmtNo) (m m1 m2 : Marks) (u : Unary) (p : Stmt) → ofStmt n < 256 → Headed s e m (One u) m1
-    → P left (inside e u) (further n 1) m1 p m2 → P (suc left) e n m (one u p) m2)
-    (of-two : (left : ℕ) (e : Around) (n : StmtNo) (m m1 m2 m3 : Marks) (b : Binary) (p q : Stmt) → ofStmt n < 256 → Headed s e m (Two b) m1
-    → P left e (further n 1) m1 p m2 → P left e (further n (1 + size p)) m2 q m3 → P (suc left) e n m (two b p q) m3) where
+    (of-one : (left : ℕ) (e : Around) (n : StmtNo) (m m1 m2 : Marks) (u : Unary) (p : Stmt) → ofStmt n < maxStatements
+    → Headed s e m (One u) m1 → P left (inside e u) (further n 1) m1 p m2 → P (suc left) e n m (one u p) m2)
+    (of-two : (left : ℕ) (e : Around) (n : StmtNo) (m m1 m2 m3 : Marks) (b : Binary) (p q : Stmt) → ofStmt n < maxStatements
+    → Headed s e m (Two b) m1 → P left e (further n 1) m1 p m2 → P left e (further n (1 + size p)) m2 q m3
+    → P (suc left) e n m (two b p q) m3) where
   -- what a reader reads satisfies P
   abbrev Reads : ℕ → Reader → Type 0
   Reads left sub = (e : Around) (n : StmtNo) (m : Marks) (t : Stmt) (m′ : Marks) → sub e n m ≡ got t m′ → P left e n m t m′
@@ -158,12 +166,13 @@ module _ (s : List ℕ) (P : ℕ → Around → StmtNo → Marks → Stmt → Ma
   stopped : {A : Type 0} (f : Fault) (t : Stmt) (m : Marks) → refused f ≡ got t m → A
   stopped f t m q = let absurdity : _≡_ {A = ℕ} 0 1 = cc in absurd (omega arith)
 
-  same : (left : ℕ) (e : Around) (n : StmtNo) (m m1 m′ : Marks) (t t′ : Stmt) → got t m1 ≡ got t′ m′ → P left e n m t m1 → P left e n m t′ m′
+  same : (left : ℕ) (e : Around) (n : StmtNo) (m m1 m′ : Marks) (t t′ : Stmt) → got t m1 ≡ got t′ m′ → P left e n m t m1
+      → P left e n m t′ m′
   same left e n m m1 m′ t t′ q k =
       let tree : t ≡ t′ = cc in let marks : m1 ≡ m′ = cc in
       subst (λ (x : Marks). P left e n m t′ x) marks (subst (λ (x : Stmt). P left e n m x m1) tree k)
 
-  parts-read : (left : ℕ) (sub : Reader) → Reads left sub → (e : Around) (n : StmtNo) (m : Marks) → ofStmt n < 256
+  parts-read : (left : ℕ) (sub : Reader) → Reads left sub → (e : Around) (n : StmtNo) (m : Marks) → ofStmt n < maxStatements
       → (h : HeadRead) → headAt s e m ≡ h → (t : Stmt) (m′ : Marks) → parts sub e n h ≡ got t m′ → P (suc left) e n m t m′
   unfolding parts andThen
   parts-read left sub ih e n m small (NoHead f) w t m′ q = stopped f t m′ q
@@ -190,14 +199,17 @@ module _ (s : List ℕ) (P : ℕ → Around → StmtNo → Marks → Stmt → Ma
       go (refused f) k z = stopped f t m′ z
       go (got p m2) k z = second p m2 (ih e (further n 1) m1 p m2 k) (sub e (further n (1 + size p)) m2) refl z
 
-  level-read : (left : ℕ) (sub : Reader) → Reads left sub → (e : Around) (n : StmtNo) (m : Marks) (b : Bool) → leb 256 (ofStmt n) ≡ b
+  level-read : (left : ℕ) (sub : Reader) → Reads left sub → (e : Around) (n : StmtNo) (m : Marks) (b : Bool)
+      → leb maxStatements (ofStmt n) ≡ b
       → (t : Stmt) (m′ : Marks) → pick b (refused (fault Count (m .at))) (parts sub e n (headAt s e m)) ≡ got t m′ → P (suc left) e n m t m′
   unfolding pick
   level-read left sub ih e n m true w t m′ q = stopped (fault Count (m .at)) t m′ q
-  level-read left sub ih e n m false w t m′ q = parts-read left sub ih e n m (leb-false 256 (ofStmt n) w) (headAt s e m) refl t m′ q
+  level-read left sub ih e n m false w t m′ q =
+      parts-read left sub ih e n m (leb-false maxStatements (ofStmt n) w) (headAt s e m) refl t m′ q
 
-  pub read-induction : (left : ℕ) (e : Around) (n : StmtNo) (m : Marks) (t : Stmt) (m′ : Marks) → readStmt left s e n m ≡ got t m′ → P left e n m t m′
+  pub read-induction : (left : ℕ) (e : Around) (n : StmtNo) (m : Marks) (t : Stmt) (m′ : Marks) → readStmt left s e n m ≡ got t m′
+      → P left e n m t m′
   unfolding readStmt
   read-induction zero e n m t m′ q = stopped (fault Count (m .at)) t m′ q
   read-induction (suc left) e n m t m′ q =
-      level-read left (λ e1 n1 m1. readStmt left s e1 n1 m1) (read-induction left) e n m (leb 256 (ofStmt n)) refl t m′ q
+      level-read left (λ e1 n1 m1. readStmt left s e1 n1 m1) (read-induction left) e n m (leb maxStatements (ofStmt n)) refl t m′ q

@@ -8,7 +8,6 @@ pub mod Whole
 pub mod ReadBack
 pub mod ProperRead
 pub mod ProperBytes
-pub mod Early
 pub mod OnlyBytes
 pub mod Reading
 pub mod Answers

@@ -15,8 +15,7 @@ use Rattle.sheet.specs.declared.Head.the-variants.{Zero, One, Two}
 use Rattle.sheet.specs.declared.Marks.{Marks}
 use Rattle.sheet.specs.Stmt.{Stmt, one, two, leafHalts, haltCount, declares, localCount}
 use Rattle.sheet.specs.Read.{Around, got, readStmt}
-use Rattle.sheet.specs.Rows.{haltsOn}
-use Rattle.sheet.specs.Form.{signalsOn}
+use Rattle.sheet.specs.Form.{haltsOn, signalsOn}
 use Rattle.sheet.proofs.Induction.{Names, HeadIs, read-induction}
 use Rattle.sheet.proofs.Induction.{nothing, halt, emit, sequence, loop, present, watching, parallel, trap, exit, local}
 
@@ -51,7 +50,8 @@ still {m} {m′} a b =
 named : {s : List ℕ} {e : Around} {m m′ : Marks} {x : SignalNo} → Names s e m x m′ → MovedBy m m′ 0 0
 named r = still (ap (λ (k : Marks). k .halts) (r .marks)) (ap (λ (k : Marks). k .signals) (r .marks))
 
-pub head-moved : {s : List ℕ} {e : Around} {m m′ : Marks} {c : Cursor} {h : Head} → HeadIs s e m c h m′ → MovedBy m m′ (headHalts h) (headLocals h)
+pub head-moved : {s : List ℕ} {e : Around} {m m′ : Marks} {c : Cursor} {h : Head} → HeadIs s e m c h m′
+    → MovedBy m m′ (headHalts h) (headLocals h)
 head-moved (nothing q) = still refl refl
 head-moved (halt q few) = record { halts = refl; signals = omega arith }
 head-moved (emit q r own) = let k = named r in record { halts = k .halts; signals = k .signals }

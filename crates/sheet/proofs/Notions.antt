@@ -9,16 +9,33 @@ use borrow.Author.Tests.{eqb-true, ltb-true, lt-ltb, le-ltb, le-leb, lt-leb, eq-
 use Rattle.number.specs.declared.SignalNo.{SignalNo}
 use Rattle.number.specs.declared.HaltNo.{HaltNo}
 use Rattle.number.specs.Counts.{signalNo, ofSignal, haltNo, ofHalt}
+use Rattle.limits.specs.Limits.{maxTraps}
 use Rattle.sheet.specs.declared.Leaf.{Leaf}
 use Rattle.sheet.specs.declared.Leaf.the-variants.{Nothing, Halt, Emit, Exit}
 use Rattle.sheet.specs.declared.Unary.{Unary}
 use Rattle.sheet.specs.declared.Unary.the-variants.{Loop, Watching, Trap, Signal}
 use Rattle.sheet.specs.declared.Binary.{Binary}
 use Rattle.sheet.specs.declared.Binary.the-variants.{Sequence, Present, Parallel}
-use Rattle.sheet.specs.Stmt.{Stmt, leaf, one, two, haltCount, declares, localCount}
+use Rattle.sheet.specs.declared.Head.{Head}
+use Rattle.sheet.specs.declared.Head.the-variants.{Zero, One, Two}
+use Rattle.sheet.specs.Stmt.{Stmt, leaf, one, two, kindOf, haltCount, declares, localCount}
 use Rattle.sheet.specs.Read.{Around, inside, only, rootAround}
-use Rattle.sheet.specs.Rows.{haltsOn}
-use Rattle.sheet.specs.Form.{signalsOn, LeafPlaced, UnaryPlaced, BinaryPlaced, Placed, Proper}
+use Rattle.sheet.specs.Rows.{kindSpan}
+use Rattle.sheet.specs.Form.{haltsOn, signalsOn, LeafPlaced, UnaryPlaced, BinaryPlaced, Placed, Proper}
+
+-- a kind is small: it has room in a row, and is a number of a sheet
+pub kind-small : (h : Head) → kindOf h < kindSpan
+kind-small (Zero Nothing) = omega arith
+kind-small (Zero (Halt h)) = omega arith
+kind-small (Zero (Emit s)) = omega arith
+kind-small (Zero (Exit k)) = omega arith
+kind-small (One Loop) = omega arith
+kind-small (One (Watching s)) = omega arith
+kind-small (One Trap) = omega arith
+kind-small (One (Signal s)) = omega arith
+kind-small (Two Sequence) = omega arith
+kind-small (Two (Present s)) = omega arith
+kind-small (Two Parallel) = omega arith
 
 -- "Halts .. are numbered .. in reading order": here from a on
 abbrev pub LeafNumbered : HaltNo → Leaf → Type 0
@@ -55,7 +72,7 @@ Scoped i n (leaf l) = LeafScoped i n l
 Scoped i n (one u p) = UnaryScoped n u × Scoped i n p
 Scoped i n (two b p q) = BinaryScoped n b × Scoped i n p × Scoped i n q
 
--- "EXIT: level not 2..1+d": under d traps every exit's level is one of these, and a trap has fewer than 8 around it
+-- "EXIT: level not 2..1+d": under d traps every exit's level is one of these, and a trap has not too many around it
 abbrev pub LeafExits : ℕ → Leaf → Type 0
 LeafExits d Nothing = Unit
 LeafExits d (Halt h) = Unit
@@ -65,7 +82,7 @@ LeafExits d (Exit k) = (2 ≤ k) × (k ≤ 1 + d)
 abbrev pub UnaryExits : ℕ → Unary → Type 0
 UnaryExits d Loop = Unit
 UnaryExits d (Watching s) = Unit
-UnaryExits d Trap = d < 8
+UnaryExits d Trap = d < maxTraps
 UnaryExits d (Signal s) = Unit
 
 -- the traps around the part of a statement that has d around itself
@@ -211,7 +228,8 @@ among-split a j k h = go (decLt (ofHalt h) (ofHalt a)) (decLt (ofHalt h) (ofHalt
     go (yes x) y z = rw (among-below a j h x, among-below (haltsOn a j) k h (omega arith), among-below a (j + k) h x)
     go (no x) (yes y) z = rw (among-inside a j h (omega arith) y, among-inside a (j + k) h (omega arith) (omega arith))
     go (no x) (no y) (yes z) =
-        rw (among-past a j h (omega arith), among-inside (haltsOn a j) k h (omega arith) (omega arith), among-inside a (j + k) h (omega arith) z)
+        let right = among-inside (haltsOn a j) k h (omega arith) (omega arith) in
+        rw (among-past a j h (omega arith), right, among-inside a (j + k) h (omega arith) z)
     go (no x) (no y) (no z) =
         rw (among-past a j h (omega arith), among-past (haltsOn a j) k h (omega arith), among-past a (j + k) h (omega arith))
 

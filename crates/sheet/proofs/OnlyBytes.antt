@@ -1,6 +1,6 @@
--- The sheets that are accepted are exactly the bytes of proper trees: of the trees within the limits, with their signals in scope, their halts and
--- locals numbered in reading order and their exits' levels between 2 and 1+d. So refusals 1 to 8 answer exactly what no such tree has
--- (`refused-early`: reading answers no others; `proper-bytes`: a proper tree's bytes are bytes).
+-- The sheets that are accepted are exactly the bytes of proper trees: of the trees within the limits, with their signals in scope, their
+-- halts and locals numbered in reading order and their exits' levels between 2 and 1+d. So refusals 1 to 8 answer exactly what no such tree
+-- has (`proper-bytes`: a proper tree's bytes are bytes).
 use mathlib.Core.Path.{_≡_, refl, ap, _∙_}
 use mathlib.Core.Logic.{_↔_}
 use mathlib.Core.List.{List, _++_}
@@ -30,7 +30,8 @@ sheet-bytes s are i o t r =
 pub only-bytes : (s : List ℕ) → Bytes s → (w : Sheet) → readSheet s ≡ sheet w → s ≡ sheetBytes (w .inputs) (w .outputs) (w .root)
 only-bytes s are w q =
     let r : SheetIs s (w .inputs) (w .outputs) (w .root) = is-sheet s w q in
-    stands-whole s (sheetBytes (w .inputs) (w .outputs) (w .root)) (r .m .at) (sheet-bytes s are (w .inputs) (w .outputs) (w .root) r) (r .end)
+    let all = sheet-bytes s are (w .inputs) (w .outputs) (w .root) r in
+    stands-whole s (sheetBytes (w .inputs) (w .outputs) (w .root)) (r .m .at) all (r .end)
 
 -- a sheet is accepted as a tree exactly where the tree is proper and the sheet is its bytes
 pub accepted-exactly : (s : List ℕ) → Bytes s → (w : Sheet)

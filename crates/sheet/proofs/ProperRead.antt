@@ -10,6 +10,7 @@ use Rattle.number.specs.declared.Cursor.{Cursor}
 use Rattle.number.specs.declared.NumberRead.the-variants.{Value}
 use Rattle.number.specs.Counts.{signalNo, ofSignal, haltNo, ofHalt, stmtNo, ofStmt}
 use Rattle.number.specs.Number.{numberAt, numberBytes, Bytes}
+use Rattle.limits.specs.Limits.{maxStatements, maxLevel}
 use Rattle.sheet.specs.declared.Leaf.{Leaf}
 use Rattle.sheet.specs.declared.Leaf.the-variants.{Nothing, Emit}
 use Rattle.sheet.specs.declared.Unary.{Unary}
@@ -52,7 +53,8 @@ module _ (s : List ℕ) (e : Around) (m : Marks) (c : Cursor) where
   kind-number : (k v : ℕ) (after : Cursor) → numberAt s (m .at) ≡ Value k c → numberAt s (c .at) ≡ Value v after → Bytes s
       → Stands s (m .at) (numberBytes k ++ numberBytes v) (after .at)
   kind-number k v after q w are =
-      stands-both s (m .at) (numberBytes k) (c .at) (numberBytes v) (after .at) (read-stands s (m .at) k c are q) (read-stands s (c .at) v after are w)
+      let kind = read-stands s (m .at) k c are q in
+      stands-both s (m .at) (numberBytes k) (c .at) (numberBytes v) (after .at) kind (read-stands s (c .at) v after are w)
 
   -- where only the offset moves the limits are kept
   kept : (at : ℕ) → Within m → Within (past m at)
@@ -84,7 +86,8 @@ module _ (s : List ℕ) (e : Around) (m : Marks) (c : Cursor) where
   head-is h m′ (emit {x} q r out) = naming (Zero (Emit x)) x m′ refl (r .scope, out) q r
   head-is h m′ (watching {x} q r) = naming (One (Watching x)) x m′ refl (r .scope) q r
   head-is h m′ (present {x} q r) = naming (Two (Present x)) x m′ refl (r .scope) q r
-  head-is h m′ (exit {k} {after} q r low high) = record { placed = (low, high); within = kept (after .at); bytes = kind-number 9 k after q r }
+  head-is h m′ (exit {k} {after} q r low high) =
+      record { placed = (low, high); within = kept (after .at); bytes = kind-number 9 k after q r }
   head-is h m′ (halt q few) = record { placed = refl; within = λ w. omega arith; bytes = kind-alone 1 q }
   head-is h m′ (local q few) = record { placed = refl; within = λ w. omega arith; bytes = kind-alone 10 q }
 
@@ -99,7 +102,7 @@ same-signals : {m m1 : Marks} {k : ℕ} → MovedBy m m1 k 0 → m1 .signals ≡
 same-signals {m} r = ap signalNo (r .signals ∙ add-zero (ofSignal (m .signals)))
 
 -- What reading a statement says of it, given its head and what reading its parts says of them.
-module _ (s : List ℕ) (left : ℕ) (e : Around) (n : StmtNo) (m m1 : Marks) (small : ofStmt n < 256) where
+module _ (s : List ℕ) (left : ℕ) (e : Around) (n : StmtNo) (m m1 : Marks) (small : ofStmt n < maxStatements) where
   -- a leaf ..
   says-leaf : (l : Leaf) → Headed s e m (Zero l) m1 → Says s (suc left) e n m (leaf l) m1
   unfolding Placed size levels haltCount localCount
@@ -128,7 +131,8 @@ module _ (s : List ℕ) (left : ℕ) (e : Around) (n : StmtNo) (m m1 : Marks) (s
               nesting = omega arith;
             };
         within = λ w. part .within (head .within w);
-        bytes = λ are. rw bytes-one (stands-both s (m .at) (headBytes (One u)) (m1 .at) (stmtBytes p) (m2 .at) (head .bytes are) (part .bytes are));
+        bytes = λ are.
+            rw bytes-one (stands-both s (m .at) (headBytes (One u)) (m1 .at) (stmtBytes p) (m2 .at) (head .bytes are) (part .bytes are));
       }
 
   -- .. and with two
@@ -138,7 +142,8 @@ module _ (s : List ℕ) (left : ℕ) (e : Around) (n : StmtNo) (m m1 : Marks) (s
   says-two m2 m3 b p q r first second =
       let head : HeadSays s e m (Two b) m1 = head-says s e m (Two b) m1 r in
       let own : MovedBy m m1 0 0 = head-moved (r .is) in
-      let placed2 = rw (first .here .moved .halts, first .here .moved .signals, same-halts own, same-signals own) at (second .here .placed) in
+      let moved = first .here .moved in
+      let placed2 = rw (moved .halts, moved .signals, same-halts own, same-signals own) at (second .here .placed) in
       record {
         here =
             record {
@@ -163,8 +168,9 @@ stmt-says s =
     (λ left e n m m1 m2 m3 b p q small r k k2. says-two s left e n m m1 small m2 m3 b p q r k k2)
 
 -- what reading a sheet says of its statement; b is past the sheet's numbers, m past the statement
-pub root-says : (s : List ℕ) (i o : ℕ) (t : Stmt) (r : SheetIs s i o t) → Says s 64 (rootAround i o) (stmtNo 0) (rootMarks (r .b .at) i o) t (r .m)
-root-says s i o t r = stmt-says s 64 (rootAround i o) (stmtNo 0) (rootMarks (r .b .at) i o) t (r .m) (r .root)
+pub root-says : (s : List ℕ) (i o : ℕ) (t : Stmt) (r : SheetIs s i o t)
+    → Says s maxLevel (rootAround i o) (stmtNo 0) (rootMarks (r .b .at) i o) t (r .m)
+root-says s i o t r = stmt-says s maxLevel (rootAround i o) (stmtNo 0) (rootMarks (r .b .at) i o) t (r .m) (r .root)
 
 -- whatever was read is in its place and within the limits
 pub proper : (s : List ℕ) (w : Sheet) → readSheet s ≡ sheet w → Proper (w .inputs) (w .outputs) (w .root)

@@ -1,18 +1,22 @@
 -- The laws of `readStmt` that the reader's proof stands on: how one level goes, where it stops, and what a head that was read says.
-use mathlib.Core.Path.{_≡_, refl, ap, _∙_, fun-ext}
-use mathlib.Core.Bool.{Bool, true, false, _||_}
+use mathlib.Core.Path.{_≡_, refl, sym, ap, _∙_, fun-ext}
+use mathlib.Core.Bool.{Bool, true, false, _||_, false≢true}
 use mathlib.Core.List.{List}
 use Prim.Native.Nat.{ℕ, zero, suc, _+_, _-_, _<_, _≤_}
 use native.Mathlib.Omega.{arith}
-use native.Mathlib.Decide.{ℕ-discrete}
+use native.Mathlib.Decide.{decLt, ℕ-discrete}
 use lib.Dec.{ltb, eqb}
-use borrow.Author.Tests.{le-leb, lt-leb, ne-eqb}
-use Rattle.bits.specs.Bits.{has}
+use borrow.Author.Tests.{ltb-false, le-leb, lt-leb, ne-eqb}
+use Rattle.number.proofs.Bools.{or-right-off}
+use Rattle.bits.specs.declared.Bits.{Bits}
+use Rattle.bits.specs.Bits.{has, signalBit, width, whole}
+use Rattle.bits.proofs.Whole.{Proper, has-wide}
+use Rattle.limits.specs.Limits.{maxStatements}
 use Rattle.number.specs.declared.Cursor.{Cursor}
 use Rattle.number.specs.declared.SignalNo.{SignalNo}
 use Rattle.number.specs.declared.StmtNo.{StmtNo}
 use Rattle.number.specs.declared.Refusal.the-variants.{Kind, Count}
-use Rattle.number.specs.Counts.{ofSignal, ofStmt}
+use Rattle.number.specs.Counts.{ofStmt}
 use Rattle.number.specs.Refusals.{fault}
 use Rattle.number.specs.Number.{pick}
 use Rattle.sheet.specs.declared.Leaf.the-variants.{Nothing}
@@ -26,7 +30,7 @@ use Rattle.sheet.specs.declared.HeadRead.the-variants.{Read, Refused as 
 use Rattle.sheet.specs.Stmt.{Stmt, size}
 use Rattle.sheet.specs.Read.{Around, ofKind, headAt, inside, got, refused, parts, readStmt, rootAround}
 use Rattle.sheet.specs.Rows.{headFrom}
-use Rattle.sheet.specs.Answer.{around, LocalFits}
+use Rattle.sheet.specs.Contract.{around, LocalFits}
 use Rattle.sheet.proofs.Induction.{HeadIs, headed, read-induction}
 use Rattle.sheet.proofs.Induction.{nothing, halt, emit, sequence, loop, present, watching, parallel, trap, exit, local}
 
@@ -86,18 +90,31 @@ no-kind k x h =
       other 9 (omega arith),
     )
 
--- what the code's word means after `bits::add`: one signal more may be named
-pub inside-signal : (e : Env) (x : SignalNo) (w : ℕ) → ((j : ℕ) → has w j ≡ (has (e .scope) j || eqb j (ofSignal x)))
-    → around (record { inputs = e .inputs; traps = e .traps; scope = w }) ≡ inside (around e) (Signal x)
+-- what the code's set means after `add`: one signal more may be named
+pub inside-signal : (e : Env) (x : SignalNo) (b : Bits) → ((j : ℕ) → has (whole b) j ≡ (has (whole (e .scope)) j || eqb j (signalBit x)))
+    → around (record { inputs = e .inputs; traps = e .traps; scope = b }) ≡ inside (around e) (Signal x)
 unfolding inside
-inside-signal e x w h =
-    ap (λ (f : SignalNo → Bool). record { inputs = e .inputs; traps = e .traps; scope = f }) (fun-ext λ y. h (ofSignal y))
+inside-signal e x b h =
+    ap (λ (f : SignalNo → Bool). record { inputs = e .inputs; traps = e .traps; scope = f }) (fun-ext λ y. h (signalBit y))
 
--- and after `bits::below`: those that may be named at the root
-pub at-root : (i o w : ℕ) → ((j : ℕ) → has w j ≡ ltb j (1 + i + o)) → around (record { inputs = i; traps = 0; scope = w }) ≡ rootAround i o
-at-root i o w h = ap (λ (f : SignalNo → Bool). record { inputs = i; traps = 0; scope = f }) (fun-ext λ y. h (ofSignal y))
+-- and after `below`: those that may be named at the root
+pub at-root : (i o : ℕ) (b : Bits) → ((j : ℕ) → has (whole b) j ≡ ltb j (1 + i + o))
+    → around (record { inputs = i; traps = 0; scope = b }) ≡ rootAround i o
+at-root i o b h = ap (λ (f : SignalNo → Bool). record { inputs = i; traps = 0; scope = f }) (fun-ext λ y. h (signalBit y))
 
--- a local that was read has a number below 64: from there on it is refused
+-- a signal that may be named is one that a set holds
+pub named-small : {b : Bits} → Proper (b .words) → (k : ℕ) → has (whole b) k ≡ true → k < width
+named-small {b} proper k named = go (decLt k width)
+  where
+    go : Dec (k < width) → k < width
+    go (yes h) = h
+    go (no h) = absurd (false≢true (sym (has-wide {b = b} proper k (omega arith)) ∙ named))
+
+-- a level that is no fault is at most 1 + d
+pub level-small : (k d : ℕ) → (ltb k 2 || ltb (1 + d) k) ≡ false → k ≤ 1 + d
+level-small k d e = ltb-false (1 + d) k (or-right-off (ltb k 2) (ltb (1 + d) k) e)
+
+-- a local that was read is not past the last signal: from there on it is refused
 abbrev HeadFits : Head → Type 0
 HeadFits (Zero l) = Unit
 HeadFits (One u) = LocalFits u
@@ -119,30 +136,34 @@ head-fits (local q few) = few
 pub local-fits : (s : List ℕ) (e : Around) (m : Marks) {u : Unary} {m1 : Marks} → headAt s e m ≡ Read (One u) m1 → LocalFits u
 local-fits s e m {u} {m1} h = head-fits (headed s e m (One u) m1 h .is)
 
--- one level: a level is left, and the number is below 256
-pub step : (left : ℕ) (s : List ℕ) (e : Around) (n : StmtNo) (m : Marks) → (left ≡ 0 → ⊥) → ofStmt n < 256
+-- one level: a level is left, and the number is one that a statement may have
+pub step : (left : ℕ) (s : List ℕ) (e : Around) (n : StmtNo) (m : Marks) → (left ≡ 0 → ⊥) → ofStmt n < maxStatements
     → readStmt left s e n m ≡ parts (λ e1 n1 m1. readStmt (left - 1) s e1 n1 m1) e n (headAt s e m)
 unfolding readStmt pick
 step zero s e n m some few = absurd (some refl)
-step (suc left) s e n m some few = let less : suc left - 1 ≡ left = omega arith in rw less (rw (lt-leb 256 (ofStmt n) few, readStmt))
+step (suc left) s e n m some few =
+    let less : suc left - 1 ≡ left = omega arith in
+    rw less (rw (lt-leb maxStatements (ofStmt n) few, readStmt))
 
 -- no level is left
-pub no-level : (left : ℕ) (s : List ℕ) (e : Around) (n : StmtNo) (m : Marks) → left ≡ 0 → readStmt left s e n m ≡ refused (fault Count (m .at))
+pub no-level : (left : ℕ) (s : List ℕ) (e : Around) (n : StmtNo) (m : Marks) → left ≡ 0
+    → readStmt left s e n m ≡ refused (fault Count (m .at))
 unfolding readStmt
 no-level left s e n m none = rw none
 
--- there are 256 statements before it
-pub too-many : (left : ℕ) (s : List ℕ) (e : Around) (n : StmtNo) (m : Marks) → 256 ≤ ofStmt n → readStmt left s e n m ≡ refused (fault Count (m .at))
+-- it is past the last statement
+pub too-many : (left : ℕ) (s : List ℕ) (e : Around) (n : StmtNo) (m : Marks) → maxStatements ≤ ofStmt n
+    → readStmt left s e n m ≡ refused (fault Count (m .at))
 unfolding readStmt pick
 too-many zero s e n m many = refl
-too-many (suc left) s e n m many = rw (le-leb 256 (ofStmt n) many, readStmt)
+too-many (suc left) s e n m many = rw (le-leb maxStatements (ofStmt n) many, readStmt)
 
--- the numbers of a statement that was read are below 256, its last part's too
-pub few-statements : (left : ℕ) (s : List ℕ) (e : Around) (n : StmtNo) (m : Marks) (t : Stmt) (m′ : Marks) → readStmt left s e n m ≡ got t m′
-    → ofStmt n + size t ≤ 256
+-- no number of a statement that was read is past the last, its last part's neither
+pub few-statements : (left : ℕ) (s : List ℕ) (e : Around) (n : StmtNo) (m : Marks) (t : Stmt) (m′ : Marks)
+    → readStmt left s e n m ≡ got t m′ → ofStmt n + size t ≤ maxStatements
 unfolding size
 few-statements left s e n m t m′ q =
-    read-induction s (λ left e n m t m′. ofStmt n + size t ≤ 256)
+    read-induction s (λ left e n m t m′. ofStmt n + size t ≤ maxStatements)
     (λ left e n m m1 l small h. omega arith)
     (λ left e n m m1 m2 u p small h part. omega arith)
     (λ left e n m m1 m2 m3 b p p2 small h first second. omega arith)

@@ -21,7 +21,8 @@ pub stands-none : (s : List ℕ) (a : ℕ) → a ≤ length s → Stands s a [] 
 stands-none s a h = record { end = omega arith; inside = h; bytes = refl }
 
 -- bytes that follow one another stand joined
-pub stands-both : (s : List ℕ) (a : ℕ) (xs : List ℕ) (b : ℕ) (ys : List ℕ) (c : ℕ) → Stands s a xs b → Stands s b ys c → Stands s a (xs ++ ys) c
+pub stands-both : (s : List ℕ) (a : ℕ) (xs : List ℕ) (b : ℕ) (ys : List ℕ) (c : ℕ) → Stands s a xs b → Stands s b ys c
+    → Stands s a (xs ++ ys) c
 stands-both s a xs b ys c f g =
     record {
       end = omega (arith, length-append xs ys);

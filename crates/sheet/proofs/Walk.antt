@@ -1,5 +1,5 @@
--- What a walk reads off the rows: the whole interface of later crates to them. Rows that were laid hold the statement, and where they do, a row
--- says what the statement is and where its parts stand.
+-- What a walk reads off the rows: the whole interface of later crates to them. Rows that were laid hold the statement, and where they do, a
+-- row says what the statement is and where its parts stand.
 use mathlib.Core.Path.{_≡_, refl, sym, ap, _∙_}
 use mathlib.Core.List.{List}
 use Prim.Native.Nat.{ℕ, _+_, _*_, _/_, _%_, _<_, _≤_}
@@ -11,6 +11,7 @@ use Rattle.number.specs.declared.StmtNo.{StmtNo}
 use Rattle.number.specs.declared.HaltNo.{HaltNo}
 use Rattle.number.specs.Counts.{haltNo, ofHalt, stmtNo, ofStmt}
 use Rattle.number.specs.Number.{pick}
+use Rattle.limits.specs.Limits.{maxStatements, maxHalts, maxSignals, maxTraps}
 use Rattle.sheet.specs.declared.Leaf.{Leaf}
 use Rattle.sheet.specs.declared.Leaf.the-variants.{Nothing, Halt, Emit, Exit}
 use Rattle.sheet.specs.declared.Unary.{Unary}
@@ -22,9 +23,10 @@ use Rattle.sheet.specs.declared.Head.the-variants.{Zero, One, Two}
 use Rattle.sheet.specs.declared.Row.{Row}
 use Rattle.sheet.specs.Stmt.{Stmt, leaf, one, two, headOf, kindOf, size, haltCount, localCount}
 use Rattle.sheet.specs.Read.{further}
-use Rattle.sheet.specs.Rows.{rowOf, haltsOn, leafOperand, unaryOperand, binaryOperand, operandOf, headFrom, packed, unpacked, rowAt, lay, Holds, Tree}
-use Rattle.sheet.specs.Form.{Proper}
-use Rattle.sheet.proofs.Notions.{BinaryScoped, Numbered, Scoped, Exits, proper-numbered, proper-scoped, proper-exits}
+use Rattle.sheet.specs.Rows.{rowOf, leafOperand, unaryOperand, binaryOperand, operandOf, headFrom, rowAt, lay, Holds, Tree}
+use Rattle.sheet.specs.Rows.{kindSpan, stmtSpan, fieldSpan, operandAt, firstAt, pastAt, packed, unpacked}
+use Rattle.sheet.specs.Form.{haltsOn, Proper}
+use Rattle.sheet.proofs.Notions.{kind-small, BinaryScoped, Numbered, Scoped, Exits, proper-numbered, proper-scoped, proper-exits}
 
 -- a statement has a row of its own
 pub size-pos : (t : Stmt) → 1 ≤ size t
@@ -48,33 +50,20 @@ head-back (Two Sequence) = refl
 head-back (Two (Present s)) = refl
 head-back (Two Parallel) = refl
 
-kind-small : (h : Head) → kindOf h < 16
-kind-small (Zero Nothing) = omega arith
-kind-small (Zero (Halt h)) = omega arith
-kind-small (Zero (Emit s)) = omega arith
-kind-small (Zero (Exit k)) = omega arith
-kind-small (One Loop) = omega arith
-kind-small (One (Watching s)) = omega arith
-kind-small (One Trap) = omega arith
-kind-small (One (Signal s)) = omega arith
-kind-small (Two Sequence) = omega arith
-kind-small (Two (Present s)) = omega arith
-kind-small (Two Parallel) = omega arith
-
 abbrev word : ℕ → ℕ → ℕ → ℕ → ℕ → ℕ
-word k e x f p = k + 16 * e + 65536 * x + 4294967296 * f + 281474976710656 * p
+word k e x f p = k + kindSpan * e + operandAt * x + firstAt * f + pastAt * p
 
-fields : (k e x f p : ℕ) → k < 16 → e < 4096 → x < 65536 → f < 65536 → p < 65536
-    → (word k e x f p % 16 ≡ k) × (word k e x f p / 16 % 4096 ≡ e) × (word k e x f p / 65536 % 65536 ≡ x)
-    × (word k e x f p / 4294967296 % 65536 ≡ f) × (word k e x f p / 281474976710656 % 65536 ≡ p)
+fields : (k e x f p : ℕ) → k < kindSpan → e < stmtSpan → x < fieldSpan → f < fieldSpan → p < fieldSpan
+    → (word k e x f p % kindSpan ≡ k) × (word k e x f p / kindSpan % stmtSpan ≡ e) × (word k e x f p / operandAt % fieldSpan ≡ x)
+    × (word k e x f p / firstAt % fieldSpan ≡ f) × (word k e x f p / pastAt % fieldSpan ≡ p)
 fields k e x f p hk he hx hf hp = omega arith
 
-pub unpacked-packed : (r : Row) → ofStmt (r .end) < 4096 → operandOf (r .head) < 65536 → ofHalt (r .first) < 65536 → ofHalt (r .past) < 65536
-    → unpacked (packed r) ≡ r
+pub unpacked-packed : (r : Row) → ofStmt (r .end) < stmtSpan → operandOf (r .head) < fieldSpan → ofHalt (r .first) < fieldSpan
+    → ofHalt (r .past) < fieldSpan → unpacked (packed r) ≡ r
 unfolding unpacked packed
 unpacked-packed r he hx hf hp =
-    let k : ℕ = kindOf (r .head) in
-    let back = fields k (ofStmt (r .end)) (operandOf (r .head)) (ofHalt (r .first)) (ofHalt (r .past)) (kind-small (r .head)) he hx hf hp in
+    let small = kind-small (r .head) in
+    let back = fields (kindOf (r .head)) (ofStmt (r .end)) (operandOf (r .head)) (ofHalt (r .first)) (ofHalt (r .past)) small he hx hf hp in
     rw (back .0, back .1, back .2, back .3, back .4, head-back (r .head))
 
 -- laying rows changes none of the rows before them, nor how many there are
@@ -85,7 +74,8 @@ length-lay rows n a (one u p) = length-set (lay rows (further n 1) a p) (ofStmt 
 length-lay rows n a (two b p q) =
     let rows₁ : List ℕ = lay rows (further n 1) a p in
     let rows₂ : List ℕ = lay rows₁ (further n (1 + size p)) (haltsOn a (haltCount p)) q in
-    length-set rows₂ (ofStmt n) _ ∙ length-lay rows₁ (further n (1 + size p)) (haltsOn a (haltCount p)) q ∙ length-lay rows (further n 1) a p
+    length-set rows₂ (ofStmt n) _ ∙ length-lay rows₁ (further n (1 + size p)) (haltsOn a (haltCount p)) q
+    ∙ length-lay rows (further n 1) a p
 
 pub lay-below : (rows : List ℕ) (n : StmtNo) (a : HaltNo) (t : Stmt) (j : ℕ) → j < ofStmt n → getD (lay rows n a t) j 0 ≡ getD rows j 0
 unfolding lay
@@ -122,11 +112,11 @@ holds-agree rows rows′ n a (two b p q) len same h = (
 
 -- every operand fits in a row
 unfoldable pub Small : Stmt → Type 0
-Small (leaf l) = leafOperand l < 65536
-Small (one u p) = (unaryOperand u < 65536) × Small p
-Small (two b p q) = (binaryOperand b < 65536) × Small p × Small q
+Small (leaf l) = leafOperand l < fieldSpan
+Small (one u p) = (unaryOperand u < fieldSpan) × Small p
+Small (two b p q) = (binaryOperand b < fieldSpan) × Small p × Small q
 
-small-head : (t : Stmt) → Small t → operandOf (headOf t) < 65536
+small-head : (t : Stmt) → Small t → operandOf (headOf t) < fieldSpan
 unfolding Small headOf
 small-head (leaf l) h = h
 small-head (one u p) h = h .0
@@ -135,29 +125,41 @@ small-head (two b p q) h = h .0
 -- the rows of t from the number n and the halt a on have room in a table, and in the fields of a row
 pub record Room (rows : List ℕ) (n : StmtNo) (a : HaltNo) (t : Stmt) : Type 0 where
   pub inside : ofStmt n + size t ≤ length rows
-  pub numbers : ofStmt n + size t < 4096
-  pub halts : ofHalt a + haltCount t < 65536
+  pub numbers : ofStmt n + size t < stmtSpan
+  pub halts : ofHalt a + haltCount t < fieldSpan
   pub operands : Small t
 
 -- and so have the rows of its parts
 room-one : (rows : List ℕ) (n : StmtNo) (a : HaltNo) (u : Unary) (p : Stmt) → Room rows n a (one u p) → Room rows (further n 1) a p
 unfolding size haltCount Small
-room-one rows n a u p r = record { inside = omega (arith, r .inside); numbers = omega (arith, r .numbers); halts = r .halts; operands = r .operands .1 }
+room-one rows n a u p r =
+    record { inside = omega (arith, r .inside); numbers = omega (arith, r .numbers); halts = r .halts; operands = r .operands .1 }
 
 room-left : (rows : List ℕ) (n : StmtNo) (a : HaltNo) (b : Binary) (p q : Stmt) → Room rows n a (two b p q) → Room rows (further n 1) a p
 unfolding size haltCount Small
 room-left rows n a b p q r =
-    record { inside = omega (arith, r .inside); numbers = omega (arith, r .numbers); halts = omega (arith, r .halts); operands = r .operands .1 }
+    record {
+      inside = omega (arith, r .inside);
+      numbers = omega (arith, r .numbers);
+      halts = omega (arith, r .halts);
+      operands = r .operands .1;
+    }
 
-room-right : (rows rows′ : List ℕ) (n : StmtNo) (a : HaltNo) (b : Binary) (p q : Stmt) → length rows′ ≡ length rows → Room rows n a (two b p q)
-    → Room rows′ (further n (1 + size p)) (haltsOn a (haltCount p)) q
+room-right : (rows rows′ : List ℕ) (n : StmtNo) (a : HaltNo) (b : Binary) (p q : Stmt) → length rows′ ≡ length rows
+    → Room rows n a (two b p q) → Room rows′ (further n (1 + size p)) (haltsOn a (haltCount p)) q
 unfolding size haltCount Small
 room-right rows rows′ n a b p q len r =
-    record { inside = omega (arith, r .inside); numbers = omega (arith, r .numbers); halts = omega (arith, r .halts); operands = r .operands .2 }
+    record {
+      inside = omega (arith, r .inside);
+      numbers = omega (arith, r .numbers);
+      halts = omega (arith, r .halts);
+      operands = r .operands .2;
+    }
 
 -- the row that was written last, over rows of the same length, is there, and is read back
 row-laid : (rows rows′ : List ℕ) (n : StmtNo) (a : HaltNo) (t : Stmt) → length rows′ ≡ length rows → Room rows n a t
-    → (ofStmt n < length (set rows′ (ofStmt n) (packed (rowOf n a t)))) × (rowAt (set rows′ (ofStmt n) (packed (rowOf n a t))) n ≡ rowOf n a t)
+    → (ofStmt n < length (set rows′ (ofStmt n) (packed (rowOf n a t))))
+    × (rowAt (set rows′ (ofStmt n) (packed (rowOf n a t))) n ≡ rowOf n a t)
 row-laid rows rows′ n a t len r =
     let w : ℕ = packed (rowOf n a t) in
     let some : 1 ≤ size t = size-pos t in
@@ -199,34 +201,37 @@ holds-laid rows n a (two b p q) r =
     (row .0, row .1, holds-agree rows₁ rows₃ n₁ a p (len₃ ∙ len₂) kept₁ left, holds-agree rows₂ rows₃ n₂ a₂ q len₃ kept₂ right)
 
 -- a statement in its place is small
-small-leaf : (i n d : ℕ) (a : HaltNo) (l : Leaf) → n ≤ 64 → ofHalt a ≤ 63 → d ≤ 8 → Numbered a (leaf l) → Scoped i n (leaf l) → Exits d (leaf l)
-    → leafOperand l < 65536
-unfolding Numbered Scoped Exits
-small-leaf i n d a Nothing few halts traps h s x = omega arith
-small-leaf i n d a (Halt k) few halts traps h s x = let same : ofHalt k ≡ ofHalt a = ap (λ (y : HaltNo). ofHalt y) h in omega arith
-small-leaf i n d a (Emit y) few halts traps h s x = omega (arith, s .1)
-small-leaf i n d a (Exit k) few halts traps h s x = omega (arith, x .1)
+module _ (i n : ℕ) (few : n ≤ maxSignals) where
+  small-leaf : (d : ℕ) (a : HaltNo) (l : Leaf) → ofHalt a ≤ maxHalts → d ≤ maxTraps → Numbered a (leaf l) → Scoped i n (leaf l)
+      → Exits d (leaf l) → leafOperand l < fieldSpan
+  unfolding Numbered Scoped Exits
+  small-leaf d a Nothing halts traps h s x = omega arith
+  small-leaf d a (Halt k) halts traps h s x = let same : ofHalt k ≡ ofHalt a = ap (λ (y : HaltNo). ofHalt y) h in omega arith
+  small-leaf d a (Emit y) halts traps h s x = omega (arith, s .1)
+  small-leaf d a (Exit k) halts traps h s x = omega (arith, x .1)
 
-small-placed : (i n d : ℕ) (a : HaltNo) (t : Stmt) → n ≤ 64 → ofHalt a + haltCount t ≤ 63 → d ≤ 8 → Numbered a t → Scoped i n t → Exits d t → Small t
-unfolding Numbered Scoped Exits Small haltCount
-small-placed i n d a (leaf l) few halts traps h s x = small-leaf i n d a l few (omega arith) traps h s x
-small-placed i n d a (one Loop p) few halts traps h s x = (omega arith, small-placed i n d a p few halts traps h (s .1) (x .1))
-small-placed i n d a (one (Watching y) p) few halts traps h s x = (omega (arith, s .0), small-placed i n d a p few halts traps h (s .1) (x .1))
-small-placed i n d a (one Trap p) few halts traps h s x = (omega arith, small-placed i n (d + 1) a p few halts (omega (arith, x .0)) h (s .1) (x .1))
-small-placed i n d a (one (Signal y) p) few halts traps h s x = (omega (arith, s .0), small-placed i n d a p few halts traps h (s .1) (x .1))
-small-placed i n d a (two b p q) few halts traps h s x = (
-  own b (s .0),
-  small-placed i n d a p few (omega arith) traps (h .0) (s .1) (x .0),
-  small-placed i n d (haltsOn a (haltCount p)) q few (omega arith) traps (h .1) (s .2) (x .1),
-)
-  where
-    own : (b : Binary) → BinaryScoped n b → binaryOperand b < 65536
-    own Sequence y = omega arith
-    own (Present z) y = omega arith
-    own Parallel y = omega arith
+  small-binary : (b : Binary) → BinaryScoped n b → binaryOperand b < fieldSpan
+  small-binary Sequence y = omega arith
+  small-binary (Present z) y = omega arith
+  small-binary Parallel y = omega arith
+
+  small-placed : (d : ℕ) (a : HaltNo) (t : Stmt) → ofHalt a + haltCount t ≤ maxHalts → d ≤ maxTraps → Numbered a t → Scoped i n t
+      → Exits d t → Small t
+  unfolding Numbered Scoped Exits Small haltCount
+  small-placed d a (leaf l) halts traps h s x = small-leaf d a l (omega arith) traps h s x
+  small-placed d a (one Loop p) halts traps h s x = (omega arith, small-placed d a p halts traps h (s .1) (x .1))
+  small-placed d a (one (Watching y) p) halts traps h s x = (omega (arith, s .0), small-placed d a p halts traps h (s .1) (x .1))
+  small-placed d a (one Trap p) halts traps h s x =
+      (omega arith, small-placed (d + 1) a p halts (omega (arith, x .0)) h (s .1) (x .1))
+  small-placed d a (one (Signal y) p) halts traps h s x = (omega (arith, s .0), small-placed d a p halts traps h (s .1) (x .1))
+  small-placed d a (two b p q) halts traps h s x = (
+    small-binary b (s .0),
+    small-placed d a p (omega arith) traps (h .0) (s .1) (x .0),
+    small-placed d (haltsOn a (haltCount p)) q (omega arith) traps (h .1) (s .2) (x .1),
+  )
 
 -- the rows of a whole sheet
-pub holds-proper : (i o : ℕ) (rows : List ℕ) (t : Stmt) → Proper i o t → 256 ≤ length rows
+pub holds-proper : (i o : ℕ) (rows : List ℕ) (t : Stmt) → Proper i o t → maxStatements ≤ length rows
     → Holds (lay rows (stmtNo 0) (haltNo 0) t) (stmtNo 0) (haltNo 0) t
 holds-proper i o rows t h room =
     holds-laid rows (stmtNo 0) (haltNo 0) t (record {
@@ -234,7 +239,7 @@ holds-proper i o rows t h room =
       numbers = omega (arith, h .statements);
       halts = omega (arith, h .halts);
       operands =
-          small-placed i (1 + i + o + localCount t) 0 (haltNo 0) t (h .signals) (omega (arith, h .halts)) (omega arith)
+          small-placed i (1 + i + o + localCount t) (h .signals) 0 (haltNo 0) t (omega (arith, h .halts)) (omega arith)
           (proper-numbered h) (proper-scoped h) (proper-exits h);
     })
 
@@ -272,10 +277,11 @@ all-within rows n a (one u p) h = omega (arith, all-within rows (further n 1) a 
 all-within rows n a (two b p q) h = omega (arith, all-within rows (further n (1 + size p)) (haltsOn a (haltCount p)) q (h .3))
 
 -- a row's fields are small, so the numbers past t, and past its halts, are
-pub few-numbers : (rows : List ℕ) (n : StmtNo) (a : HaltNo) (t : Stmt) → Holds rows n a t → ofStmt n + size t < 4096
+pub few-numbers : (rows : List ℕ) (n : StmtNo) (a : HaltNo) (t : Stmt) → Holds rows n a t → ofStmt n + size t < stmtSpan
 unfolding unpacked
 few-numbers rows n a t h =
-    let end : getD rows (ofStmt n) 0 / 16 % 4096 ≡ ofStmt n + size t = ap (λ (k : StmtNo). ofStmt k) (end-of rows n a t h) in omega arith
+    let end : getD rows (ofStmt n) 0 / kindSpan % stmtSpan ≡ ofStmt n + size t = ap (λ (k : StmtNo). ofStmt k) (end-of rows n a t h) in
+    omega arith
 
 -- what a row's head says of t, and where the rows hold its parts
 pub record IsOne (rows : List ℕ) (n : StmtNo) (a : HaltNo) (t : Stmt) (u : Unary) : Type 0 where

@@ -15,6 +15,7 @@ use Rattle.number.specs.declared.Refusal.the-variants.{Count, Extra}
 use Rattle.number.specs.Counts.{stmtNo}
 use Rattle.number.specs.Number.{numberAt, pick}
 use Rattle.number.specs.Refusals.{fault}
+use Rattle.limits.specs.Limits.{maxLevel, maxSignals, manySignals}
 use Rattle.sheet.specs.declared.Marks.{Marks}
 use Rattle.sheet.specs.Stmt.{Stmt}
 use Rattle.sheet.specs.Read.{Outcome, got, refused, readStmt, rootAround, rootMarks}
@@ -27,8 +28,8 @@ pub record SheetIs (s : List ℕ) (i o : ℕ) (t : Stmt) : Type 0 where
   pub m : Marks
   pub inputs : numberAt s 0 ≡ Value i a
   pub outputs : numberAt s (a .at) ≡ Value o b
-  pub header : 1 + i + o ≤ 64
-  pub root : readStmt 64 s (rootAround i o) (stmtNo 0) (rootMarks (b .at) i o) ≡ got t m
+  pub header : 1 + i + o ≤ maxSignals
+  pub root : readStmt maxLevel s (rootAround i o) (stmtNo 0) (rootMarks (b .at) i o) ≡ got t m
   pub end : length s ≤ m .at
 
 abbrev pub sheetOf : ℕ → ℕ → Stmt → Sheet
@@ -38,7 +39,9 @@ sheetOf i o t = record { inputs = i; outputs = o; root = t }
 pub sheet-is : (s : List ℕ) (i o : ℕ) (t : Stmt) → SheetIs s i o t → readSheet s ≡ sheet (sheetOf i o t)
 unfolding readSheet afterInputs afterOutputs rootRead ended pick
 sheet-is s i o t r =
-    rw (r .inputs) (rw (r .outputs) (rw (le-ltb 64 (1 + i + o) (r .header)) (rw (r .root) (rw (le-ltb (r .m .at) (length s) (r .end))))))
+    let fits = le-ltb maxSignals (1 + i + o) (r .header) in
+    let whole = le-ltb (r .m .at) (length s) (r .end) in
+    rw (r .inputs) (rw (r .outputs) (rw fits (rw (r .root) (rw whole))))
 
 -- and nothing else is
 module _ (s : List ℕ) (w : Sheet) where
@@ -49,8 +52,8 @@ module _ (s : List ℕ) (w : Sheet) where
   faulted f q = let absurdity : _≡_ {A = ℕ} 0 1 = cc in absurd (omega arith)
 
   module _ (i : ℕ) (a : Cursor) (inputs : numberAt s 0 ≡ Value i a) where
-    module _ (o : ℕ) (b : Cursor) (outputs : numberAt s (a .at) ≡ Value o b) (header : 1 + i + o ≤ 64) where
-      end-is : (r : Outcome) → readStmt 64 s (rootAround i o) (stmtNo 0) (rootMarks (b .at) i o) ≡ r → ended s i o r ≡ sheet w → Is
+    module _ (o : ℕ) (b : Cursor) (outputs : numberAt s (a .at) ≡ Value o b) (header : 1 + i + o ≤ maxSignals) where
+      end-is : (r : Outcome) → readStmt maxLevel s (rootAround i o) (stmtNo 0) (rootMarks (b .at) i o) ≡ r → ended s i o r ≡ sheet w → Is
       unfolding ended pick
       end-is (refused f) root q = faulted f q
       end-is (got t m) root q = go (ltb (m .at) (length s)) refl q
@@ -67,12 +70,13 @@ module _ (s : List ℕ) (w : Sheet) where
     outputs-are : (r : NumberRead) → numberAt s (a .at) ≡ r → afterOutputs s i (a .at) r ≡ sheet w → Is
     unfolding afterOutputs rootRead pick
     outputs-are (NoNumber f) z q = faulted f q
-    outputs-are (Value o b) z q = go (ltb 64 (1 + i + o)) refl q
+    outputs-are (Value o b) z q = go (manySignals i o) refl q
       where
-        go : (x : Bool) → ltb 64 (1 + i + o) ≡ x → pick x (faulty (fault Count (a .at))) (rootRead s i o (b .at)) ≡ sheet w → Is
+        go : (x : Bool) → manySignals i o ≡ x → pick x (faulty (fault Count (a .at))) (rootRead s i o (b .at)) ≡ sheet w → Is
         go true y q = faulted (fault Count (a .at)) q
         go false y q =
-            end-is o b z (ltb-false 64 (1 + i + o) y) (readStmt 64 s (rootAround i o) (stmtNo 0) (rootMarks (b .at) i o)) refl q
+            end-is o b z (ltb-false maxSignals (1 + i + o) y)
+            (readStmt maxLevel s (rootAround i o) (stmtNo 0) (rootMarks (b .at) i o)) refl q
 
   inputs-are : (r : NumberRead) → numberAt s 0 ≡ r → afterInputs s r ≡ sheet w → Is
   unfolding afterInputs

@@ -5,8 +5,9 @@ use mathlib.Core.List.{List, [], _++_}
 use Prim.Native.Nat.{ℕ, _+_, _<_, _≤_}
 use Rattle.number.specs.declared.SignalNo.{SignalNo}
 use Rattle.number.specs.declared.HaltNo.{HaltNo}
-use Rattle.number.specs.Counts.{signalNo, ofSignal, haltNo}
+use Rattle.number.specs.Counts.{signalNo, ofSignal, haltNo, ofHalt}
 use Rattle.number.specs.Number.{numberBytes}
+use Rattle.limits.specs.Limits.{maxStatements, maxLevel, maxHalts, maxSignals, maxTraps}
 use Rattle.sheet.specs.declared.Leaf.{Leaf}
 use Rattle.sheet.specs.declared.Leaf.the-variants.{Nothing, Halt, Emit, Exit}
 use Rattle.sheet.specs.declared.Unary.{Unary}
@@ -15,7 +16,6 @@ use Rattle.sheet.specs.declared.Binary.{Binary}
 use Rattle.sheet.specs.declared.Binary.the-variants.{Sequence, Present, Parallel}
 use Rattle.sheet.specs.Stmt.{Stmt, leaf, one, two, headOf, kindOf, size, levels, haltCount, declares, localCount}
 use Rattle.sheet.specs.Read.{Around, inside, rootAround}
-use Rattle.sheet.specs.Rows.{haltsOn}
 
 -- a statement's operand in the sheet: a halt's and a local's number are not written, since they are counted
 abbrev pub leafBytes : Leaf → List ℕ
@@ -45,12 +45,15 @@ stmtBytes (two b p q) = numberBytes (kindOf (headOf (two b p q))) ++ (binaryByte
 unfoldable pub sheetBytes : ℕ → ℕ → Stmt → List ℕ
 sheetBytes i o t = numberBytes i ++ (numberBytes o ++ stmtBytes t)
 
--- the number past k signals
+-- the numbers past k halts and past k signals
+abbrev pub haltsOn : HaltNo → ℕ → HaltNo
+haltsOn a k = haltNo (ofHalt a + k)
+
 abbrev pub signalsOn : SignalNo → ℕ → SignalNo
 signalsOn b k = signalNo (ofSignal b + k)
 
--- A statement in its place: halts are numbered in reading order from a on, locals from b on, "usable in its own p only"; no emit of tick or an
--- input; exits between 2 and 1+d; at most 8 traps one in another
+-- A statement in its place: halts are numbered in reading order from a on, locals from b on, "usable in its own p only"; no emit of tick or
+-- an input; exits between 2 and 1+d; "8 traps one in another"
 unfoldable pub LeafPlaced : Around → HaltNo → Leaf → Type 0
 LeafPlaced e a Nothing = Unit
 LeafPlaced e a (Halt h) = h ≡ a
@@ -60,7 +63,7 @@ LeafPlaced e a (Exit k) = (2 ≤ k) × (k ≤ 1 + e .traps)
 unfoldable pub UnaryPlaced : Around → SignalNo → Unary → Type 0
 UnaryPlaced e b Loop = Unit
 UnaryPlaced e b (Watching s) = e .scope s ≡ true
-UnaryPlaced e b Trap = e .traps < 8
+UnaryPlaced e b Trap = e .traps < maxTraps
 UnaryPlaced e b (Signal s) = s ≡ b
 
 unfoldable pub BinaryPlaced : Around → Binary → Type 0
@@ -76,9 +79,9 @@ Placed e a b (two x p q) = BinaryPlaced e x × Placed e a b p × Placed e (halts
 
 -- "At most: 256 statements, nesting level 64 (the root is level 1), 63 halts, 64 signals with tick, 8 traps one in another"
 pub record Proper (i o : ℕ) (t : Stmt) : Type 0 where
-  pub header : 1 + i + o ≤ 64
+  pub header : 1 + i + o ≤ maxSignals
   pub placed : Placed (rootAround i o) (haltNo 0) (signalNo (1 + i + o)) t
-  pub statements : size t ≤ 256
-  pub nesting : levels t ≤ 64
-  pub halts : haltCount t ≤ 63
-  pub signals : 1 + i + o + localCount t ≤ 64
+  pub statements : size t ≤ maxStatements
+  pub nesting : levels t ≤ maxLevel
+  pub halts : haltCount t ≤ maxHalts
+  pub signals : 1 + i + o + localCount t ≤ maxSignals

@@ -2,4 +2,5 @@ pub mod Stmt
 pub mod Read
 pub mod Rows
 pub mod Answer
+pub mod Contract
 pub mod Form

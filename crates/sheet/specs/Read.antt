@@ -1,5 +1,6 @@
--- Reading a sheet: "A sheet is read left to right and the first fault answers: at a statement, COUNT for its number, then its level; then its
--- kind is read, KIND, COUNT for halts, signals, traps; then the operand is read, SCOPE, EMIT, EXIT. Header COUNT follows both numbers. Then EXTRA".
+-- Reading a sheet: "A sheet is read left to right and the first fault answers: at a statement, COUNT for its number, then its level; then
+-- its kind is read, KIND, COUNT for halts, signals, traps; then the operand is read, SCOPE, EMIT, EXIT. Header COUNT follows both numbers.
+-- Then EXTRA".
 use mathlib.Core.Bool.{Bool, _||_}
 use mathlib.Core.List.{List}
 use Prim.Native.Nat.{ℕ, zero, suc, _+_}
@@ -14,6 +15,7 @@ use Rattle.number.specs.declared.NumberRead.the-variants.{Value, Refused as NoN
 use Rattle.number.specs.Counts.{signalNo, ofSignal, haltNo, ofHalt, stmtNo, ofStmt}
 use Rattle.number.specs.Refusals.{fault}
 use Rattle.number.specs.Number.{numberAt, pick}
+use Rattle.limits.specs.Limits.{maxStatements, maxLevel, maxHalts, maxSignals, maxTraps, manySignals}
 use Rattle.sheet.specs.declared.Leaf.the-variants.{Nothing, Halt, Emit, Exit}
 use Rattle.sheet.specs.declared.Unary.{Unary}
 use Rattle.sheet.specs.declared.Unary.the-variants.{Loop, Watching, Trap, Signal}
@@ -65,24 +67,24 @@ exiting e m (Value k c) =
     pick (ltb k 2) (NoHead (fault ExitFault (m .at)))
     (pick (ltb (1 + e .traps) k) (NoHead (fault ExitFault (m .at))) (Read (Zero (Exit k)) (past m (c .at))))
 
--- "Halts .. are numbered from 0 in reading order", at most 63 of them: COUNT at the kind
+-- "Halts .. are numbered from 0 in reading order", "63 halts": COUNT at the kind
 unfoldable pub haltAt : ℕ → Marks → HeadRead
 unfolding pick
 haltAt place m =
-    pick (leb 63 (ofHalt (m .halts))) (NoHead (fault Count place))
+    pick (leb maxHalts (ofHalt (m .halts))) (NoHead (fault Count place))
     (Read (Zero (Halt (m .halts))) (record { at = m .at; halts = haltNo (ofHalt (m .halts) + 1); signals = m .signals }))
 
--- "each statement 10 declares the next number", at most 64 signals with tick: COUNT at the kind
+-- "each statement 10 declares the next number", "64 signals with tick": COUNT at the kind
 unfoldable pub localAt : ℕ → Marks → HeadRead
 unfolding pick
 localAt place m =
-    pick (leb 64 (ofSignal (m .signals))) (NoHead (fault Count place))
+    pick (leb maxSignals (ofSignal (m .signals))) (NoHead (fault Count place))
     (Read (One (Signal (m .signals))) (record { at = m .at; halts = m .halts; signals = signalNo (ofSignal (m .signals) + 1) }))
 
 -- "8 traps one in another": COUNT at the kind
 unfoldable pub trapAt : ℕ → Around → Marks → HeadRead
 unfolding pick
-trapAt place e m = pick (leb 8 (e .traps)) (NoHead (fault Count place)) (Read (One Trap) m)
+trapAt place e m = pick (leb maxTraps (e .traps)) (NoHead (fault Count place)) (Read (One Trap) m)
 
 -- the eleven kinds, "KIND: over 10"; m is past the kind, which was read at `place`
 unfoldable pub ofKind : List ℕ → Around → ℕ → Marks → ℕ → HeadRead
@@ -146,13 +148,13 @@ parts sub e n (Read (One u) m) = andThen (sub (inside e u) (further n 1) m) λ p
 parts sub e n (Read (Two b) m) =
     andThen (sub e (further n 1) m) λ p m1. andThen (sub e (further n (1 + size p)) m1) λ q m2. got (two b p q) m2
 
--- statement number n, where `left` levels are left: "COUNT for its number, then its level", at most 256 statements. Both are COUNT where the
+-- statement number n, where `left` levels are left: "COUNT for its number, then its level", "256 statements". Both are COUNT where the
 -- statement would begin, so it does not show that the level is asked first
 unfoldable pub readStmt : ℕ → List ℕ → Reader
 unfolding parts pick
 readStmt zero s e n m = refused (fault Count (m .at))
 readStmt (suc left) s e n m =
-    pick (leb 256 (ofStmt n)) (refused (fault Count (m .at)))
+    pick (leb maxStatements (ofStmt n)) (refused (fault Count (m .at)))
     (parts (λ e1 n1 m1. readStmt left s e1 n1 m1) e n (headAt s e m))
 
 -- a sheet that was read: I, O and the statement
@@ -181,13 +183,13 @@ ended s i o (got t m) =
 
 unfoldable pub rootRead : List ℕ → ℕ → ℕ → ℕ → SheetOutcome
 unfolding ended
-rootRead s i o at = ended s i o (readStmt 64 s (rootAround i o) (stmtNo 0) (rootMarks at i o))
+rootRead s i o at = ended s i o (readStmt maxLevel s (rootAround i o) (stmtNo 0) (rootMarks at i o))
 
 -- "Header COUNT follows both numbers", at the "offset of second header number"
 unfoldable pub afterOutputs : List ℕ → ℕ → ℕ → NumberRead → SheetOutcome
 unfolding rootRead pick
 afterOutputs s i at (NoNumber f) = faulty f
-afterOutputs s i at (Value o c) = pick (ltb 64 (1 + i + o)) (faulty (fault Count at)) (rootRead s i o (c .at))
+afterOutputs s i at (Value o c) = pick (manySignals i o) (faulty (fault Count at)) (rootRead s i o (c .at))
 
 unfoldable pub afterInputs : List ℕ → NumberRead → SheetOutcome
 unfolding afterOutputs

@@ -1,3 +1,4 @@
+-- Not to be believed: what the code keeps to; the proofs check it.
 -- The rows that hold a statement: one for each statement in reading order, at its number, with its head, the number past its last part, and
 -- its halts, from the first to past the last. A row is packed in one word.
 use mathlib.Core.Path.{_≡_}
@@ -20,14 +21,11 @@ use Rattle.sheet.specs.declared.Head.the-variants.{Zero, One, Two}
 use Rattle.sheet.specs.declared.Row.{Row}
 use Rattle.sheet.specs.Stmt.{Stmt, leaf, one, two, headOf, kindOf, size, haltCount}
 use Rattle.sheet.specs.Read.{further}
+pub use Rattle.sheet.specs.Form.{haltsOn}
 
 -- the row of the statement t with the number n, whose halts are numbered from a on
 abbrev pub rowOf : StmtNo → HaltNo → Stmt → Row
-rowOf n a t = record { head = headOf t; end = further n (size t); first = a; past = haltNo (ofHalt a + haltCount t) }
-
--- the number past k halts
-abbrev pub haltsOn : HaltNo → ℕ → HaltNo
-haltsOn a k = haltNo (ofHalt a + k)
+rowOf n a t = record { head = headOf t; end = further n (size t); first = a; past = haltsOn a (haltCount t) }
 
 -- a head's operand as a number, 0 where it has none
 abbrev pub leafOperand : Leaf → ℕ
@@ -68,19 +66,39 @@ headFrom k x =
     (pick (eqb k 10) (One (Signal (signalNo x)))
     (Zero Nothing))))))))))
 
--- a row in a word: 4 bits for the kind, 12 for the end, 16 each for operand, first and past
+-- a row in a word: 4 bits for the kind, 12 for the end, 16 each for operand, first and past. So many of each a row can tell ..
+abbrev pub kindSpan : ℕ
+kindSpan = 16
+
+abbrev pub stmtSpan : ℕ
+stmtSpan = 4096
+
+abbrev pub fieldSpan : ℕ
+fieldSpan = 65536
+
+-- .. and there the fields behind the end begin
+abbrev pub operandAt : ℕ
+operandAt = kindSpan * stmtSpan
+
+abbrev pub firstAt : ℕ
+firstAt = operandAt * fieldSpan
+
+abbrev pub pastAt : ℕ
+pastAt = firstAt * fieldSpan
+
 unfoldable pub packed : Row → ℕ
 packed r =
-    kindOf (r .head) + 16 * ofStmt (r .end) + 65536 * operandOf (r .head) + 4294967296 * ofHalt (r .first) + 281474976710656 * ofHalt (r .past)
+    kindOf (r .head) + kindSpan * ofStmt (r .end) + operandAt * operandOf (r .head) + firstAt * ofHalt (r .first)
+    + pastAt * ofHalt (r .past)
 
 unfoldable pub unpacked : ℕ → Row
 unfolding headFrom
 unpacked w =
     record {
-      head = headFrom (w % 16) (w / 65536 % 65536);
-      end = stmtNo (w / 16 % 4096);
-      first = haltNo (w / 4294967296 % 65536);
-      past = haltNo (w / 281474976710656 % 65536);
+      head = headFrom (w % kindSpan) (w / operandAt % fieldSpan);
+      end = stmtNo (w / kindSpan % stmtSpan);
+      first = haltNo (w / firstAt % fieldSpan);
+      past = haltNo (w / pastAt % fieldSpan);
     }
 
 -- the row of statement n

@@ -1,5 +1,5 @@
--- The statement: "0 nothing; 1 halt; 2 emit s; 3 sequence p q; 4 loop p; 5 present s p q; 6 watching s p; 7 parallel p q; 8 trap p; 9 exit k;
--- 10 signal p." By its parts, none, one or two; a halt and a signal statement carry their own numbers.
+-- The statement: "0 nothing; 1 halt; 2 emit s; 3 sequence p q; 4 loop p; 5 present s p q; 6 watching s p; 7 parallel p q; 8 trap p;
+-- 9 exit k; 10 signal p." By its parts, none, one or two; a halt and a signal statement carry their own numbers.
 use Prim.Native.Nat.{ℕ, _+_, max}
 use Rattle.sheet.specs.declared.Leaf.{Leaf}
 use Rattle.sheet.specs.declared.Leaf.the-variants.{Nothing, Halt, Emit, Exit}

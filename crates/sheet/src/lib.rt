@@ -1,4 +1,5 @@
 // The sheet: its statements, the reader into rows, and what a later walk reads off a row.
+use bits::Bits;
 use number::Cursor;
 use number::Fault;
 use number::HaltNo;
@@ -12,11 +13,12 @@ ghost use lib.ListN.{length, set};
 ghost use Rattle.number.specs.Counts.{ofStmt};
 ghost use Rattle.number.specs.Number.{numberAt};
 ghost use Rattle.number.specs.Refusals.{fault};
+ghost use Rattle.limits.specs.Limits.{maxStatements, maxLevel, maxSignals};
 ghost use Rattle.sheet.specs.Stmt.{kindOf};
 ghost use Rattle.sheet.specs.Read.{past, signalAt, naming, emitting, exiting, haltAt, localAt, trapAt};
 ghost use Rattle.sheet.specs.Read.{ofKind, headAt, inside, further, readStmt, rootRead, readSheet};
-ghost use Rattle.sheet.specs.Rows.{operandOf, headFrom, packed, unpacked, rowAt};
-ghost use Rattle.sheet.specs.Answer.{around, LocalFits, Noted, DidStmt, DidSheet};
+ghost use Rattle.sheet.specs.Rows.{kindSpan, stmtSpan, operandOf, headFrom, packed, unpacked, rowAt};
+ghost use Rattle.sheet.specs.Contract.{around, LocalFits, Noted, DidStmt, DidSheet};
 
 // A statement without parts, and what is said of one with one or two before its parts.
 pub enum Leaf {
@@ -56,7 +58,7 @@ pub struct Marks {
 pub struct Env {
     pub inputs: u16,
     pub traps: u16,
-    pub scope: u64,
+    pub scope: Bits,
 }
 
 // A signal that was named, or the refusal.
@@ -129,8 +131,9 @@ fn read_signal(s: &[u8], e: Env, m: Marks) -> SignalRead
     let NumberRead::Value(v, next) = r else {
         return SignalRead::Refused(number::fault_of(r));
     };
-    if bits::member(e.scope, v) {
-        return SignalRead::Named(SignalNo::new((v % 65536) as u16), m.past(next));
+    let scope = e.scope;
+    if scope.member(v) {
+        return SignalRead::Named(SignalNo::new(v as u16), m.past(next));
     }
     SignalRead::Refused(Fault {
         refusal: Refusal::Scope,
@@ -174,6 +177,7 @@ fn watching_head(s: &[u8], e: Env, m: Marks) -> HeadRead
 
 // The level of an exit: EXIT unless it is 2..1+d.
 fn exit_head(s: &[u8], e: Env, m: Marks) -> HeadRead
+    requires { ⌜ e .traps ≤ maxLevel ⌝ }
     ensures { λ h. ⌜ h ≡ exiting (around e) m (numberAt (now (s .entry)) (m .at)) ⌝ }
 {
     let at = m.at;
@@ -184,10 +188,10 @@ fn exit_head(s: &[u8], e: Env, m: Marks) -> HeadRead
     if limits::no_level(k, e.traps) {
         return refused(Refusal::Exit, at);
     }
-    HeadRead::Read(Head::Zero(Leaf::Exit((k % 65536) as u16)), m.past(next))
+    HeadRead::Read(Head::Zero(Leaf::Exit(k as u16)), m.past(next))
 }
 
-// A halt takes the next halt's number: COUNT past 63.
+// A halt takes the next halt's number: COUNT past the last.
 fn halt_head(place: usize, m: Marks) -> HeadRead
     ensures { λ h. ⌜ h ≡ haltAt place m ⌝ }
 {
@@ -207,7 +211,7 @@ fn halt_head(place: usize, m: Marks) -> HeadRead
     )
 }
 
-// A signal statement takes the next signal's number: COUNT past 64.
+// A signal statement takes the next signal's number: COUNT past the last.
 fn local_head(place: usize, m: Marks) -> HeadRead
     ensures { λ h. ⌜ h ≡ localAt place m ⌝ }
 {
@@ -227,7 +231,7 @@ fn local_head(place: usize, m: Marks) -> HeadRead
     )
 }
 
-// A trap: COUNT past 8 one in another.
+// A trap: COUNT past so many one in another.
 fn trap_head(place: usize, e: Env, m: Marks) -> HeadRead
     ensures { λ h. ⌜ h ≡ trapAt place (around e) m ⌝ }
 {
@@ -239,6 +243,7 @@ fn trap_head(place: usize, e: Env, m: Marks) -> HeadRead
 
 // The statement of kind k, which was read at `place`; m is past its kind.
 fn head_of_kind(s: &[u8], e: Env, place: usize, k: u32, m: Marks) -> HeadRead
+    requires { ⌜ e .traps ≤ maxLevel ⌝ }
     ensures { λ h. ⌜ h ≡ ofKind (now (s .entry)) (around e) place m k ⌝ }
 {
     match k {
@@ -259,6 +264,7 @@ fn head_of_kind(s: &[u8], e: Env, place: usize, k: u32, m: Marks) -> HeadRead
 
 // The head of the statement at the marks.
 fn read_head(s: &[u8], e: Env, m: Marks) -> HeadRead
+    requires { ⌜ e .traps ≤ maxLevel ⌝ }
     ensures { λ h. ⌜ h ≡ headAt (now (s .entry)) (around e) m ⌝ }
 {
     let at = m.at;
@@ -271,28 +277,29 @@ fn read_head(s: &[u8], e: Env, m: Marks) -> HeadRead
 
 // What holds inside a statement with one part.
 fn inner(e: Env, u: Unary) -> Env
-    requires { ⌜ (e .traps < 64) × LocalFits u ⌝ }
+    requires { ⌜ (e .traps < maxLevel) × LocalFits u ⌝ }
     ensures { λ r. ⌜ (around r ≡ inside (around e) u) × (r .traps ≤ e .traps + 1) ⌝ }
 {
+    let scope = e.scope;
     match u {
         Unary::Loop => e,
         Unary::Watching(_) => e,
         Unary::Trap => Env {
             inputs: e.inputs,
             traps: e.traps + 1,
-            scope: e.scope,
+            scope,
         },
         Unary::Signal(x) => Env {
             inputs: e.inputs,
             traps: e.traps,
-            scope: bits::add(e.scope, x.number() as u32),
+            scope: scope.add(bits::signal_bit(x)),
         },
     }
 }
 
 // A head's kind and operand as numbers.
 fn kind_no(h: Head) -> u8
-    ensures { λ r. ⌜ (r ≡ kindOf h) × (r < 16) ⌝ }
+    ensures { λ r. ⌜ (r ≡ kindOf h) × (r < kindSpan) ⌝ }
 {
     match h {
         Head::Zero(l) => match l {
@@ -339,9 +346,21 @@ fn operand_no(h: Head) -> u16
     }
 }
 
-// A row in a word.
+// A row in a word: 4 bits for the kind, 12 for the end, 16 each for the operand, the first halt and the one past the last.
+const KIND_SPAN: u64 = 16;
+
+const STMT_SPAN: u64 = 4096;
+
+const FIELD_SPAN: u64 = 65536;
+
+const OPERAND_AT: u64 = KIND_SPAN * STMT_SPAN;
+
+const FIRST_AT: u64 = OPERAND_AT * FIELD_SPAN;
+
+const PAST_AT: u64 = FIRST_AT * FIELD_SPAN;
+
 fn pack(r: Row) -> u64
-    requires { ⌜ ofStmt (r .end) < 4096 ⌝ }
+    requires { ⌜ ofStmt (r .end) < stmtSpan ⌝ }
     ensures { λ w. ⌜ w ≡ packed r ⌝ }
 {
     let head = r.head;
@@ -349,10 +368,10 @@ fn pack(r: Row) -> u64
     let first = r.first;
     let past = r.past;
     kind_no(head) as u64
-        + 16 * (end.number() as u64)
-        + 65536 * (operand_no(head) as u64)
-        + 4294967296 * (first.number() as u64)
-        + 281474976710656 * (past.number() as u64)
+        + KIND_SPAN * (end.number() as u64)
+        + OPERAND_AT * (operand_no(head) as u64)
+        + FIRST_AT * (first.number() as u64)
+        + PAST_AT * (past.number() as u64)
 }
 
 // The head that a kind and an operand say.
@@ -378,10 +397,10 @@ fn unpack(w: u64) -> Row
     ensures { λ r. ⌜ r ≡ unpacked w ⌝ }
 {
     Row {
-        head: head_from(w % 16, (w / 65536 % 65536) as u16),
-        end: StmtNo::new((w / 16 % 4096) as u16),
-        first: HaltNo::new((w / 4294967296 % 65536) as u16),
-        past: HaltNo::new((w / 281474976710656 % 65536) as u16),
+        head: head_from(w % KIND_SPAN, (w / OPERAND_AT % FIELD_SPAN) as u16),
+        end: StmtNo::new((w / KIND_SPAN % STMT_SPAN) as u16),
+        first: HaltNo::new((w / FIRST_AT % FIELD_SPAN) as u16),
+        past: HaltNo::new((w / PAST_AT % FIELD_SPAN) as u16),
     }
 }
 
@@ -396,7 +415,7 @@ pub fn row_at(rows: &[u64], n: StmtNo) -> Row
 
 // Writes the row of statement n.
 fn note(rows: &mut [u64], n: StmtNo, r: Row)
-    requires { ⌜ (ofStmt n < length (now rows)) × (ofStmt (r .end) < 4096) ⌝ }
+    requires { ⌜ (ofStmt n < length (now rows)) × (ofStmt (r .end) < stmtSpan) ⌝ }
     ensures { λ _. ⌜ now (rows .exit) ≡ set (now (rows .entry)) (ofStmt n) (packed r) ⌝ }
 {
     let i = n.number() as usize;
@@ -405,15 +424,24 @@ fn note(rows: &mut [u64], n: StmtNo, r: Row)
 
 // The number after n: that of its first part, if it has any.
 pub fn first_part(n: StmtNo) -> StmtNo
-    requires { ⌜ ofStmt n < 4096 ⌝ }
+    requires { ⌜ ofStmt n < stmtSpan ⌝ }
     ensures { λ r. ⌜ r ≡ further n 1 ⌝ }
 {
     StmtNo::new(n.number() + 1)
 }
 
+// The number of the second part of n: the end of its first part.
+pub fn second_part(rows: &[u64], n: StmtNo) -> StmtNo
+    requires { ⌜ (ofStmt n < stmtSpan) × (ofStmt n + 1 < length (now rows)) ⌝ }
+    ensures { λ r. ⌜ r ≡ rowAt (now (rows .entry)) (further n 1) .end ⌝ }
+{
+    let first = row_at(rows, first_part(n));
+    first.end
+}
+
 // A statement whose parts, if any, were read: m stands before it, and `end` and `after` are past it.
 fn noted(rows: &mut [u64], n: StmtNo, head: Head, m: Marks, end: StmtNo, after: Marks) -> StmtRead
-    requires { ⌜ (ofStmt n < length (now rows)) × (ofStmt end < 4096) ⌝ }
+    requires { ⌜ (ofStmt n < length (now rows)) × (ofStmt end < stmtSpan) ⌝ }
     ensures { λ r. ⌜ Noted n head m end after r (now (rows .entry)) (now (rows .exit)) ⌝ }
 {
     let first = m.halts;
@@ -433,7 +461,7 @@ fn noted(rows: &mut [u64], n: StmtNo, head: Head, m: Marks, end: StmtNo, after: 
 
 // The statement n, where `left` levels are left: its rows and those of its parts.
 fn read_stmt(s: &[u8], rows: &mut [u64], left: usize, e: Env, n: StmtNo, m: Marks) -> StmtRead
-    requires { ⌜ (256 ≤ length (now rows)) × (e .traps + left ≤ 64) ⌝ }
+    requires { ⌜ (maxStatements ≤ length (now rows)) × (e .traps + left ≤ maxLevel) ⌝ }
     ensures { λ r. ⌜ DidStmt n (m .halts) (readStmt left (now (s .entry)) (around e) n m) r (now (rows .entry)) (now (rows .exit)) ⌝ }
 {
     let at = m.at;
@@ -473,21 +501,21 @@ fn read_stmt(s: &[u8], rows: &mut [u64], left: usize, e: Env, n: StmtNo, m: Mark
 
 // The statement of a sheet with i inputs and o outputs, and nothing after it.
 fn read_root(s: &[u8], rows: &mut [u64], i: u16, o: u16, at: usize) -> SheetRead
-    requires { ⌜ (256 ≤ length (now rows)) × (1 + i + o ≤ 64) ⌝ }
+    requires { ⌜ (maxStatements ≤ length (now rows)) × (1 + i + o ≤ maxSignals) ⌝ }
     ensures { λ r. ⌜ DidSheet (rootRead (now (s .entry)) i o at) r (now (rows .entry)) (now (rows .exit)) ⌝ }
 {
     let n = 1 + i + o;
     let e = Env {
         inputs: i,
         traps: 0,
-        scope: bits::below(n as u32),
+        scope: Bits::below(n as u32),
     };
     let m = Marks {
         at,
         halts: HaltNo::new(0),
         signals: SignalNo::new(n),
     };
-    match read_stmt(s, rows, 64, e, StmtNo::new(0), m) {
+    match read_stmt(s, rows, limits::MAX_LEVEL as usize, e, StmtNo::new(0), m) {
         StmtRead::Refused(f) => SheetRead::Refused(f),
         StmtRead::Next(end, after) => {
             let last = after.at;
@@ -510,9 +538,9 @@ fn read_root(s: &[u8], rows: &mut [u64], i: u16, o: u16, at: usize) -> SheetRead
     }
 }
 
-// Reads a sheet into rows, of which 256 always suffice.
+// Reads a sheet into rows, one for each statement.
 pub fn read_sheet(s: &[u8], rows: &mut [u64]) -> SheetRead
-    requires { ⌜ 256 ≤ length (now rows) ⌝ }
+    requires { ⌜ maxStatements ≤ length (now rows) ⌝ }
     ensures { λ r. ⌜ DidSheet (readSheet (now (s .entry))) r (now (rows .entry)) (now (rows .exit)) ⌝ }
 {
     let a = number::read_number(s, 0);
@@ -530,11 +558,5 @@ pub fn read_sheet(s: &[u8], rows: &mut [u64]) -> SheetRead
             place: second,
         });
     }
-    read_root(
-        s,
-        rows,
-        (i % 65536) as u16,
-        (o % 65536) as u16,
-        past_outputs.at,
-    )
+    read_root(s, rows, i as u16, o as u16, past_outputs.at)
 }

@@ -11,17 +11,19 @@ use Rattle.number.specs.Refusals.{refusalNo, fault}
 use Rattle.sheet.specs.declared.Counts.{Counts}
 use Rattle.sheet.specs.declared.SheetRead.{SheetRead}
 use Rattle.sheet.specs.declared.SheetRead.the-variants.{Read, Refused as NotRead}
-use Rattle.sheet.specs.Read.{SheetOutcome, sheet, faulty}
+use Rattle.sheet.specs.Read.{Sheet, SheetOutcome, sheet, faulty}
 use Rattle.sheet.specs.Answer.{countsOf, sheetAnswer}
-use Rattle.rules.specs.Words.{Fitted}
+use Rattle.rules.specs.Words.{Runnable, root, KnownRoot, Fitted}
+use Rattle.rules.proofs.Walks.{run-proper}
+use Rattle.rules.proofs.Fitting.{known-proper}
 use Rattle.compiler.specs.Check.{Checks}
-use Rattle.interpreter.specs.declared.Interpreted.{Interpreted}
-use Rattle.interpreter.specs.declared.Interpreted.the-variants.{Refused, Reacted as HasReacted}
-use Rattle.interpreter.specs.Interpret.{event-refused, state-refused, reacted, Interprets, refused, accepted}
-use Rattle.interpreter.proofs.Interpreting.{Compiled-as}
-use Rattle.verdicts.specs.declared.Reaction.{Reaction}
-use Rattle.verdicts.specs.Answers.{verdict, answerOf, refusal, acceptance, withReaction}
-use Rattle.sheet_entries.specs.Sheets.{readingOf, sheetVerdict, sheetAccepted, Checked, sheetFits, Fitting, sheetEvent, Reacting, Reacted}
+use Rattle.interpreter.specs.Program.{PreparedAs, Prepared, Prepares, AcceptedRuns}
+use Rattle.interpreter.proofs.Interpreting.{Compiled-as, accepted-proper}
+use Rattle.interpreter.specs.declared.Program.{Program}
+use Rattle.verdicts.specs.Answers.{verdict, answerOf, refusal, acceptance, withState}
+use Rattle.verdicts.specs.Runs.{Asked, Told}
+use Rattle.verdicts.proofs.Running.{ran-stopped}
+use Rattle.sheet_entries.specs.Sheets.{readingOf, sheetVerdict, sheetAccepted, Checked, sheetFits, Fitting, sheetEvents, sheetStep, ReactedMany}
 
 -- reading alone
 pub read-refused : (o : SheetOutcome) {r : SheetRead} {f : Fault} {n : ℕ} → r ≡ sheetAnswer o → r ≡ NotRead f → n ≡ refusalNo (f .refusal)
@@ -47,10 +49,10 @@ module _ {s : List ℕ} {f : Fault} (was : Checks s (faulty f)) where
   fitting-refused = record { outcome = faulty f; checks = was; answer = refl }
 
 -- an accepted sheet
-module _ {s rows sets cells : List ℕ} {c : Counts} {n : ℕ} (a : Compiled-as s c n rows sets cells) where
+module _ {s rows statics cells : List ℕ} {c : Counts} {n : ℕ} (a : Compiled-as s c n rows statics cells) where
   pub counts-are : acceptance (c .statements) n ≡ sheetAccepted (sheet (a .read))
   unfolding sheetAccepted
-  counts-are = rw (a .is .counts, a .is .count)
+  counts-are = rw (a .counts, a .count)
 
   pub checked-accepted : Checked s (acceptance (c .statements) n)
   unfolding answerOf sheetVerdict
@@ -59,7 +61,7 @@ module _ {s rows sets cells : List ℕ} {c : Counts} {n : ℕ} (a : Compiled-as 
   module _ {state : ℕ} {fit : Bool} (fitted : Fitted rows state fit) where
     fits-is : {b : Bool} → fit ≡ b → sheetFits (sheet (a .read)) state ≡ b
     unfolding sheetFits
-    fits-is is = sym (fitted .answer (a .read .root) (a .is .holds)) ∙ is
+    fits-is is = sym (fitted .answer (a .read .root) (a .own .holds)) ∙ is
 
     pub fitting-accepted : fit ≡ true → Fitting s state (acceptance (c .statements) n)
     unfolding answerOf sheetVerdict verdict pick
@@ -69,18 +71,33 @@ module _ {s rows sets cells : List ℕ} {c : Counts} {n : ℕ} (a : Compiled-as 
     unfolding answerOf sheetVerdict verdict pick
     fitting-state is = record { outcome = sheet (a .read); checks = a .accepts; answer = rw (fits-is is) }
 
--- the interpreter's answer in the paper's numbers
-abbrev reactionOf : Interpreted → Reaction
-reactionOf (Refused f kept) = withReaction (refusal f) 0 kept
-reactionOf (HasReacted c n emissions next) = withReaction (acceptance (c .statements) n) emissions next
+-- the runs of the program that was made of it are its runs
+pub many-refused : {s : List ℕ} {f : Fault} {ask : Asked} → Checks s (faulty f)
+    → ReactedMany s ask (record { course = withState (refusal f) (ask .state); signals = ask .signals; states = ask .states })
+unfolding verdict sheetVerdict
+many-refused {f = f} was = record { outcome = faulty f; checks = was; answer = ran-stopped refl }
 
-reacts : {s : List ℕ} {state event : ℕ} (i : Interpreted) → Interprets s state event i → Reacted s state event (reactionOf i)
-unfolding Reacting sheetVerdict sheetEvent sheetFits verdict pick
-reacts i (refused was) = record { outcome = faulty _; checks = was; answer = refl }
-reacts i (accepted {w} was (event-refused no-event)) = record { outcome = sheet w; checks = was; answer = rw no-event refl }
-reacts i (accepted {w} was (state-refused event unfit)) = record { outcome = sheet w; checks = was; answer = rw (event, unfit) refl }
-reacts i (accepted {w} was (reacted {emissions} {next} event fit moment)) =
-    record { outcome = sheet w; checks = was; answer = rw (event, fit) (emissions, next, moment, refl) }
+-- the rows of a compiled sheet are run, and with its static sets its states are judged
+module _ {s rows statics cells : List ℕ} {c : Counts} {n : ℕ} (a : Compiled-as s c n rows statics cells) where
+  pub runnable : Runnable rows root
+  runnable = run-proper (accepted-proper (a .accepts)) (a .own .holds)
 
-pub reacts-as : {s : List ℕ} {state event : ℕ} {i : Interpreted} {r : Reaction} → Interprets s state event i → r ≡ reactionOf i → Reacted s state event r
-reacts-as {i = i} did is = rw is (reacts i did)
+  pub known : KnownRoot rows statics
+  known = known-proper (accepted-proper (a .accepts)) (a .own .holds) (a .own .kept)
+
+pub prepared-as : {s rows statics cells : List ℕ} {c : Counts} {n : ℕ} {p : Program} (a : Compiled-as s c n rows statics cells) → Prepares rows c n p
+    → PreparedAs p rows statics (a .read)
+prepared-as {s} a q =
+    record {
+      bytes = s;
+      accepts = a .accepts;
+      counts = q .counts ∙ a .counts;
+      count = q .count ∙ a .count;
+      holds = a .own .holds;
+      kept = a .own .kept;
+      covers = q .tested .tested _ (a .read .root) (a .own .holds);
+    }
+
+pub many-ran : {s : List ℕ} {w : Sheet} {ask : Asked} {told : Told} → Checks s (sheet w) → AcceptedRuns w ask told → ReactedMany s ask told
+unfolding verdict sheetVerdict sheetEvents sheetFits sheetStep sheetAccepted
+many-ran {w = w} was did = record { outcome = sheet w; checks = was; answer = did }

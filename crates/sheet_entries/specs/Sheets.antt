@@ -11,13 +11,13 @@ use Rattle.sheet.specs.Read.{SheetOutcome, sheet, faulty}
 use Rattle.sheet.specs.Answer.{countsOf}
 use Rattle.rules.specs.States.{fits}
 use Rattle.builder.specs.Netlist.{netlist, sheetNetlist}
-use Rattle.run.specs.Words.{eventOk}
+use Rattle.run.specs.Many.{Step, eventsOk}
 use Rattle.compiler.specs.Check.{Checks}
 use Rattle.interpreter.specs.Interpret.{Moment}
 use Rattle.verdicts.specs.declared.Answer.{Answer}
-use Rattle.verdicts.specs.declared.Reaction.{Reaction}
 use Rattle.verdicts.specs.declared.Reading.{Reading}
-use Rattle.verdicts.specs.Answers.{Verdict, passes, stops, verdict, answerOf, refusal, acceptance, withReaction}
+use Rattle.verdicts.specs.Answers.{Verdict, passes, stops, verdict, answerOf, refusal, acceptance}
+use Rattle.verdicts.specs.Runs.{Asked, Told, needed, hasRoom, Runs}
 
 -- what reading alone answers: statements, halts, and signals with tick
 unfoldable pub readingOf : SheetOutcome → Reading
@@ -54,21 +54,24 @@ pub record Fitting (s : List ℕ) (state : ℕ) (r : Answer) : Type 0 where
   pub checks : Checks s outcome
   pub answer : r ≡ answerOf (verdict (sheetVerdict outcome) true (sheetFits outcome state) true 0) (sheetAccepted outcome)
 
--- whether an event is one of the sheet's own inputs
-unfoldable pub sheetEvent : SheetOutcome → ℕ → Bool
-sheetEvent (faulty f) event = true
-sheetEvent (sheet w) event = eventOk (w .inputs) event
+-- whether the events are of the sheet's own inputs
+unfoldable pub sheetEvents : SheetOutcome → List ℕ → Bool
+sheetEvents (faulty f) events = true
+sheetEvents (sheet w) events = eventsOk (w .inputs) events
 
--- the answer to a reaction: where nothing stops it, the emissions and the next state of a moment of the rules
-unfoldable pub Reacting : SheetOutcome → Verdict → ℕ → ℕ → Reaction → Type 0
-Reacting o (stops f) state event r = r ≡ withReaction (refusal f) 0 state
-Reacting (faulty f) passes state event r = ⊥
-Reacting (sheet w) passes state event r =
-    (emissions : ℕ) × (next : ℕ) × Moment (w .root) state event emissions next
-    × (r ≡ withReaction (acceptance (size (w .root)) (length (sheetNetlist w))) emissions next)
+-- one reaction of a sheet: a moment of the rules
+unfoldable pub sheetStep : SheetOutcome → Step
+sheetStep (faulty f) state event emissions next = ⊥
+sheetStep (sheet w) state event emissions next = Moment (w .root) state event emissions next
 
--- React by interpreter.
-pub record Reacted (s : List ℕ) (state event : ℕ) (r : Reaction) : Type 0 where
+-- The order of faults: the sheet's own; EVENT where any event is bad; STATE; BUFFER, at the length needed.
+abbrev pub SheetRuns : SheetOutcome → Asked → Told → Type 0
+SheetRuns o ask told =
+    Runs (sheetStep o) (sheetAccepted o)
+    (verdict (sheetVerdict o) (sheetEvents o (ask .events)) (sheetFits o (ask .state)) (hasRoom ask) (needed ask)) ask told
+
+-- React by interpreter, to many events; a reaction is this `Once`.
+pub record ReactedMany (s : List ℕ) (ask : Asked) (told : Told) : Type 0 where
   pub outcome : SheetOutcome
   pub checks : Checks s outcome
-  pub answer : Reacting outcome (verdict (sheetVerdict outcome) (sheetEvent outcome event) (sheetFits outcome state) true 0) state event r
+  pub answer : SheetRuns outcome ask told

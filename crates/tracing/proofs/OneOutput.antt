@@ -6,7 +6,8 @@ use native.Mathlib.Omega.{arith}
 use Rattle.sheet.specs.Read.{sheet}
 use Rattle.verdicts.specs.declared.Answer.{Answer}
 use Rattle.verdicts.specs.declared.Reaction.{Reaction}
-use Rattle.sheet_entries.specs.Sheets.{Checked, Reacted}
+use Rattle.verdicts.specs.Runs.{Once}
+use Rattle.sheet_entries.specs.Sheets.{Checked, ReactedMany}
 use Rattle.sheet_entries.proofs.OneSheetAnswer.{one-checked, one-reacted}
 use Rattle.digits.specs.declared.Value.the-variants.{Is, Bad}
 use Rattle.digits.specs.Bytes.{bytes, malformed}
@@ -54,7 +55,7 @@ same-opened {s} {s′} {I} {I′} {O} {O′} is a b =
 
 -- a reaction to an event
 same-reaction : (line : List ℕ) {s : List ℕ} {state event event′ : ℕ} {r r′ : Reaction} → eventLine line ≡ Is event → eventLine line ≡ Is event′
-    → Reacted s state event r → Reacted s state event′ r′ → r ≡ r′
+    → Once (ReactedMany s) state event r → Once (ReactedMany s) state event′ r′ → r ≡ r′
 same-reaction line {s} {state} {event} {event′} a b c d =
     let both : Is event ≡ Is event′ = sym a ∙ b in
     let is : event ≡ event′ = cc in

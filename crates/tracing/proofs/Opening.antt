@@ -10,9 +10,10 @@ use lib.ListN.{length, length-map}
 use Rattle.number.specs.declared.Refusal.{Refusal}
 use Rattle.number.specs.declared.Refusal.the-variants.{Short, Number, Kind, Count, Scope, Emit, Exit, Extra}
 use Rattle.number.specs.declared.Refusal.the-variants.{Instant, Twice, Room, Cycle, Event, State, Buffer, Cell}
+use Rattle.number.specs.declared.Refusal.the-variants.{Word, Name, Cover, Order, Line, States}
 use Rattle.number.specs.Number.{pick}
 use Rattle.number.specs.Refusals.{refusalNo}
-use Rattle.gates.specs.Store.{word}
+use Rattle.cells.specs.Words.{word}
 use Rattle.sheet.specs.Read.{Sheet, SheetOutcome, sheet, faulty}
 use Rattle.builder.specs.Netlist.{sheetNetlist}
 use Rattle.compiler.specs.Check.{Checks, accepted}
@@ -45,6 +46,12 @@ refusal-positive Event = omega arith
 refusal-positive State = omega arith
 refusal-positive Buffer = omega arith
 refusal-positive Cell = omega arith
+refusal-positive Word = omega arith
+refusal-positive Name = omega arith
+refusal-positive Cover = omega arith
+refusal-positive Order = omega arith
+refusal-positive Line = omega arith
+refusal-positive States = omega arith
 
 abbrev pub answerIn : Listing → Answer
 answerIn l = record { number = l .number; place = l .place; statements = l .statements; cells = l .cells }

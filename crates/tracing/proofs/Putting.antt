@@ -6,8 +6,8 @@ use native.Mathlib.Numerals.{add-one}
 use native.Mathlib.Omega.{arith}
 use lib.ListN.{length, take, getD, set}
 use lib.Seq.{sets, take-suc, take-length, length-take-le}
-use Rattle.gates.proofs.Laws.{sets-append}
-use Rattle.writer.specs.Write.{Writes}
+use Rattle.number.proofs.Lists.{sets-append}
+use Rattle.netlists.specs.Write.{Writes}
 
 -- one byte more of a text
 pub byte-put : (out₀ text : List ℕ) (at i : ℕ) {out : List ℕ} → i < length text → out ≡ sets out₀ at (take i text)

@@ -9,13 +9,14 @@ use lib.ListN.{length, take, length-append}
 use lib.Seq.{length-sets}
 use Rattle.io.specs.Counts.{Counts}
 use Rattle.io.proofs.Counting.{counts}
-use Rattle.writer.specs.Write.{Writes}
-use Rattle.writer.proofs.Laying.{nothing-writes}
-use Rattle.bits.specs.Bits.{has}
+use Rattle.netlists.specs.Write.{Writes}
+use Rattle.netlists.proofs.Laying.{nothing-writes}
+use Rattle.bits.specs.Bits.{has, whole}
 use Rattle.rules.specs.States.{atRest}
 use Rattle.verdicts.specs.declared.Reaction.{Reaction}
 use Rattle.verdicts.specs.declared.Listing.{Listing}
-use Rattle.sheet_entries.specs.Sheets.{Reacted}
+use Rattle.verdicts.specs.Runs.{Once}
+use Rattle.sheet_entries.specs.Sheets.{ReactedMany}
 use Rattle.compile_entries.specs.Compile.{Listed}
 use Rattle.digits.specs.declared.Value.the-variants.{Is, Bad}
 use Rattle.digits.specs.declared.Hex.{Hex}
@@ -28,7 +29,7 @@ use Rattle.tracing.specs.declared.Run.{Run}
 use Rattle.tracing.specs.declared.After.{After}
 use Rattle.tracing.specs.Texts.{okText, refusedText, restText, instantText, badText}
 use Rattle.tracing.specs.Steps.{State, first, running, stopped, held, sheetLine, eventLine, Steps, stateOf, Prints, Stepped}
-use Rattle.tracing.specs.Steps.{counted, outputsIn, movedRun, instantOf}
+use Rattle.tracing.specs.Steps.{counted, outputsIn, lowWord, movedRun, instantOf}
 use Rattle.tracing.specs.Steps.{sheet-malformed, sheet-refused, sheet-accepted, event-malformed, event-refused, instant, after-stop}
 use Rattle.tracing.proofs.Numerals.{decimal-short, hex-short}
 use Rattle.tracing.proofs.Opening.{was-checked, was-headed}
@@ -88,16 +89,16 @@ module _ (run : Run) (column line : List ℕ) {a : After} {out out′ : List ℕ
   event-bad is p = answered (event-malformed (sym is)) p
 
   module _ (n : ℕ) {event : ℕ} (is : Is event ≡ valueOf 16 16 line) (same : take n column ≡ take (run .length) column) {r : Reaction}
-      (reacted : Reacted (take n column) (run .state) event r) where
+      {state′ event′ : ℕ} (of-state : state′ ≡ run .state) (of-event : event′ ≡ event) (reacted : Once (ReactedMany (take n column)) state′ event′ r) where
     pub event-no : 0 < r .number → Prints (Running run) (refusedText (r .number) (r .place)) a out out′
         → Stepped (running (held run column)) line a column out out′
     unfolding stateOf eventLine
-    event-no some p = answered (event-refused (sym is) (rw same at reacted) some) p
+    event-no some p = answered (event-refused (sym is) (rw (same, of-state, of-event) at reacted) some) p
 
     pub event-instant : r .number ≡ 0 → Prints (Running (movedRun run r)) (instantOf (held run []) r) a out out′
         → Stepped (running (held run column)) line a column out out′
     unfolding stateOf eventLine
-    event-instant none p = answered (instant (sym is) (rw same at reacted) none) p
+    event-instant none p = answered (instant (sym is) (rw (same, of-state, of-event) at reacted) none) p
 
 -- after a stop nothing is done
 pub stopped-step : (line column out : List ℕ) → Stepped stopped line (record { trace = Stopped; len = 0 }) column out out
@@ -119,8 +120,8 @@ text-short (event-malformed is) = omega arith
 text-short (event-refused {r = r} is was some) = simp length-append (omega (arith, decimal-short (r .number), decimal-short (r .place)))
 text-short (instant {h = h} {r = r} is was none) =
     let number = decimal-short (counted (h .instants)) in
-    let outputs = hex-short (outputsIn (h .inputs) (h .outputs) (r .signals)) in
-    simp length-append (omega (arith, hex-short (r .state), rest-short (atRest (has (r .state)))))
+    let outputs = hex-short (outputsIn (h .inputs) (h .outputs) (lowWord (r .signals))) in
+    simp length-append (omega (arith, hex-short (lowWord (r .state)), rest-short (atRest (has (whole (r .state))))))
 text-short after-stop = omega arith
 
 pub text-counted : {t : State} {line : List ℕ} {r : After} {column out out′ : List ℕ} → 64 ≤ length out → Stepped t line r column out out′ → Counts (r .len) out′

@@ -5,13 +5,15 @@ use mathlib.Core.Bool.{cond}
 use mathlib.Core.List.{List, []}
 use lib.Dec.{leb}
 use lib.ListN.{length, take}
-use Rattle.bits.specs.Bits.{has}
+use Rattle.bits.specs.declared.Bits.{Bits}
+use Rattle.bits.specs.Bits.{has, whole}
 use Rattle.sheet.specs.Read.{Sheet, sheet, readSheet}
 use Rattle.rules.specs.States.{atRest}
-use Rattle.writer.specs.Write.{Writes}
+use Rattle.netlists.specs.Write.{Writes}
 use Rattle.verdicts.specs.declared.Answer.{Answer}
 use Rattle.verdicts.specs.declared.Reaction.{Reaction}
-use Rattle.sheet_entries.specs.Sheets.{Checked, Reacted}
+use Rattle.verdicts.specs.Runs.{Once}
+use Rattle.sheet_entries.specs.Sheets.{Checked, ReactedMany}
 use Rattle.digits.specs.declared.Value.{Value}
 use Rattle.digits.specs.declared.Value.the-variants.{Is, Bad}
 use Rattle.digits.specs.Digits.{valueOf}
@@ -63,12 +65,17 @@ counted instants = min (instants + 1) 18446744073709551615
 unfoldable pub outputsIn : ℕ → ℕ → ℕ → ℕ
 outputsIn I O w = w / 2 ^ (1 + I) % 2 ^ O * 2 ^ (1 + I)
 
+-- what is kept and printed of a set: its lowest word, which is all of it where sets have one word
+abbrev pub lowWord : Bits → ℕ
+lowWord b = whole b % 2 ^ 64
+
 -- after an instant
 abbrev pub moved : Held → Reaction → Held
-moved h r = record { sheet = h .sheet; inputs = h .inputs; outputs = h .outputs; state = r .state; instants = counted (h .instants) }
+moved h r = record { sheet = h .sheet; inputs = h .inputs; outputs = h .outputs; state = lowWord (r .state); instants = counted (h .instants) }
 
 abbrev pub instantOf : Held → Reaction → List ℕ
-instantOf h r = instantText (counted (h .instants)) (outputsIn (h .inputs) (h .outputs) (r .signals)) (r .state) (atRest (has (r .state)))
+instantOf h r =
+    instantText (counted (h .instants)) (outputsIn (h .inputs) (h .outputs) (lowWord (r .signals))) (lowWord (r .state)) (atRest (has (whole (r .state))))
 
 -- One line's step, from a state and the line to a state and the text that is printed. "after a refused sheet it stops, after a refused event the instant
 -- isn't counted"; "Any other line is malformed, prints `bad line` and stops."
@@ -79,9 +86,9 @@ pub data Steps : State → List ℕ → State → List ℕ → Type 0 where
   sheet-accepted : {line s : List ℕ} {r : Answer} {I O : ℕ} → sheetLine line ≡ bytes s → Checked s r → r .number ≡ 0 → Headed s I O
       → Steps first line (running (opened s I O)) (okText (r .statements) (r .cells))
   event-malformed : {h : Held} {line : List ℕ} → eventLine line ≡ Bad → Steps (running h) line stopped badText
-  event-refused : {h : Held} {line : List ℕ} {event : ℕ} {r : Reaction} → eventLine line ≡ Is event → Reacted (h .sheet) (h .state) event r → 0 < r .number
+  event-refused : {h : Held} {line : List ℕ} {event : ℕ} {r : Reaction} → eventLine line ≡ Is event → Once (ReactedMany (h .sheet)) (h .state) event r → 0 < r .number
       → Steps (running h) line (running h) (refusedText (r .number) (r .place))
-  instant : {h : Held} {line : List ℕ} {event : ℕ} {r : Reaction} → eventLine line ≡ Is event → Reacted (h .sheet) (h .state) event r → r .number ≡ 0
+  instant : {h : Held} {line : List ℕ} {event : ℕ} {r : Reaction} → eventLine line ≡ Is event → Once (ReactedMany (h .sheet)) (h .state) event r → r .number ≡ 0
       → Steps (running h) line (running (moved h r)) (instantOf h r)
   after-stop : {line : List ℕ} → Steps stopped line stopped []
 
@@ -97,7 +104,7 @@ stateOf Stopped column = stopped
 
 abbrev pub movedRun : Run → Reaction → Run
 movedRun run r =
-    record { length = run .length; inputs = run .inputs; outputs = run .outputs; state = r .state; instants = counted (run .instants) }
+    record { length = run .length; inputs = run .inputs; outputs = run .outputs; state = lowWord (r .state); instants = counted (run .instants) }
 
 -- An answer: what is awaited next, and the text, which stands at the buffer's start and has the length that is answered.
 pub record Prints (t : Trace) (text : List ℕ) (r : After) (out out′ : List ℕ) : Type 0 where

@@ -2,6 +2,7 @@
 mod text;
 
 use digits::Value;
+use krankovel::Bits;
 use krankovel::Reaction;
 ghost use mathlib.Core.Path.{_≡_};
 ghost use Prim.Native.Nat.{_≤_};
@@ -15,7 +16,8 @@ ghost use Rattle.tracing.specs.Steps as Steps;
 // The most hex digits of a sheet's line.
 const DIGITS: usize = 2048;
 
-// What was accepted: how many bytes of the lent column are the sheet's, its numbers of inputs and outputs, the state and the instants counted.
+// What was accepted: how many bytes of the lent column are the sheet's, its numbers of inputs and outputs, the state and the instants counted. The state is
+// one word, since an enum holds no array.
 pub struct Run {
     pub length: usize,
     pub inputs: u16,
@@ -118,16 +120,17 @@ fn instant(run: Run, r: Reaction, out: &mut [u8]) -> After
     ensures { λ a. ⌜ Prints (Trace.Running (Steps.movedRun run r)) (Steps.instantOf (Steps.held run []) r) a (now (out .entry)) (now (out .exit)) ⌝ }
 {
     let instants = counted(run.instants);
-    let outputs = outputs_in(run.inputs, run.outputs, r.signals);
+    let state = r.state.low_word();
+    let outputs = outputs_in(run.inputs, run.outputs, r.signals.low_word());
     After {
         trace: Trace::Running(Run {
             length: run.length,
             inputs: run.inputs,
             outputs: run.outputs,
-            state: r.state,
+            state,
             instants,
         }),
-        len: text::instant_line(out, instants, outputs, r.state, krankovel::rest(r.state)),
+        len: text::instant_line(out, instants, outputs, state, krankovel::rest(r.state)),
     }
 }
 
@@ -149,7 +152,7 @@ fn event_line(run: Run, column: &[u8], line: &[u8], out: &mut [u8]) -> After
         return bad_line(out);
     };
     let n = within(run.length, column);
-    let r = krankovel::react(&column[..n], run.state, event);
+    let r = krankovel::react(&column[..n], Bits::of_word(run.state), Bits::of_word(event));
     if r.number > 0 {
         return refused_line(Trace::Running(run), r.number, r.place, out);
     }

@@ -1,7 +1,7 @@
 // What a trace prints: texts that are put into a lent buffer, one behind the other.
 ghost use Prim.Native.Nat.{_+_, _≤_};
 ghost use lib.ListN.{length};
-ghost use Rattle.writer.specs.Write.{Writes};
+ghost use Rattle.netlists.specs.Write.{Writes};
 ghost use Rattle.tracing.specs.Texts.{decimal, hex, okText, refusedText, restText, instantText, badText};
 
 // Some bytes from `at` on; the place past them.

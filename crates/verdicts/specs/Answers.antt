@@ -9,6 +9,7 @@ use Rattle.number.specs.declared.Fault.{Fault}
 use Rattle.number.specs.declared.Refusal.the-variants.{Event, State, Buffer}
 use Rattle.number.specs.Number.{pick}
 use Rattle.number.specs.Refusals.{refusalNo, fault}
+use Rattle.bits.specs.Bits.{bitsOf}
 use Rattle.verdicts.specs.declared.Answer.{Answer}
 use Rattle.verdicts.specs.declared.Course.{Course}
 use Rattle.verdicts.specs.declared.Listing.{Listing}
@@ -21,7 +22,7 @@ pub data Verdict : Type 0 where
   passes : Verdict
   stops : Fault → Verdict
 
--- The order of all faults. The form's own comes first: 1 to 12 of a sheet (`Checks`, compiler), 1 to 4, 8, 16 and 12 of a netlist (`Checks`, netlists). "A
+-- The order of 13 to 15, after the form's own: 1 to 12 of a sheet (`Checks`, compiler), 1 to 4, 8, 16 and 12 of a netlist (`NetChecks`, netlists). "A
 -- reaction, or the file writer, that is handed a faulty sheet or netlist, in any form, answers that fault before 13 or 15", "13 comes before 14": then EVENT
 -- and STATE, place 0, and BUFFER, whose place is the "length needed".
 unfoldable pub verdict : Verdict → Bool → Bool → Bool → ℕ → Verdict
@@ -48,25 +49,28 @@ unfoldable pub bufferAfter : Verdict → List ℕ → List ℕ → List ℕ
 bufferAfter (stops f) file buffer = buffer
 bufferAfter passes file buffer = sets buffer 0 file
 
--- an answer with what a reaction gives; "any refusal returns the state handed in"
-abbrev pub withReaction : Answer → ℕ → ℕ → Reaction
-withReaction a signals state =
-    record { number = a .number; place = a .place; statements = a .statements; cells = a .cells; signals = signals; state = state }
-
 -- an answer with the numbers of inputs and outputs of a netlist whose cells are handed out
 abbrev pub withSignals : Answer → ℕ → ℕ → Listing
 withSignals a inputs outputs =
     record { number = a .number; place = a .place; statements = a .statements; cells = a .cells; inputs = inputs; outputs = outputs }
 
--- an answer with the state after the last event
+-- an answer with the state after the last event; "any refusal returns the state handed in"
 abbrev pub withState : Answer → ℕ → Course
-withState a state = record { number = a .number; place = a .place; statements = a .statements; cells = a .cells; state = state }
+withState a state = record { number = a .number; place = a .place; statements = a .statements; cells = a .cells; state = bitsOf state }
 
--- neither lent slice is shorter than the number of events
-abbrev pub hasRoom : List ℕ → List ℕ → List ℕ → Bool
-hasRoom events signals states = leb (length events) (length signals) && leb (length events) (length states)
+-- the answer to a run over one event, with the signals that it gave
+abbrev pub reactionOf : Course → ℕ → Reaction
+reactionOf c signals =
+    record {
+      number = c .number;
+      place = c .place;
+      statements = c .statements;
+      cells = c .cells;
+      signals = bitsOf signals;
+      state = c .state;
+    }
 
--- the fault that stops many events, or none
+-- the fault that stops a run, or none
 unfoldable pub stopOf : Verdict → Stop
 stopOf passes = Nothing
 stopOf (stops f) = By f

@@ -1,9 +1,13 @@
-// What the public entries answer: the paper's number and place, the counts, and the order of the faults that many events can have.
+// What the public entries answer: the paper's number and place, the counts, and the order of the faults that a run over events can have.
+use bits::Bits;
 use number::Fault;
 use number::Refusal;
 ghost use mathlib.Core.Path.{_≡_};
 ghost use mathlib.Core.Bool.{_&&_};
+ghost use Prim.Native.Nat.{_*_, _/_};
 ghost use lib.Dec.{leb};
+ghost use lib.ListN.{length};
+ghost use Rattle.bits.specs.Bits.{words, whole};
 ghost use Rattle.verdicts.specs.Answers as Answers;
 
 // The number, 0 for acceptance, its place, and the counts of statements and cells.
@@ -22,8 +26,8 @@ pub struct Reaction {
     pub place: usize,
     pub statements: u16,
     pub cells: u16,
-    pub signals: u64,
-    pub state: u64,
+    pub signals: Bits,
+    pub state: Bits,
 }
 
 // An answer with the numbers of inputs and outputs, both 0 on a refusal, of a netlist whose cells were handed out.
@@ -47,17 +51,17 @@ pub struct Reading {
     pub signals: u16,
 }
 
-// An answer for many events, with the state after the last of them; a refusal has the state handed in.
+// The answer to a run over events, with the state after the last of them; a refusal has the state handed in.
 #[repr(C)]
 pub struct Course {
     pub number: u8,
     pub place: usize,
     pub statements: u16,
     pub cells: u16,
-    pub state: u64,
+    pub state: Bits,
 }
 
-// What stops a run over many events.
+// What stops a run over events.
 pub enum Stop {
     Nothing,
     By(Fault),
@@ -88,15 +92,16 @@ pub fn acceptance(statements: u16, cells: u16) -> Answer
     }
 }
 
-// An answer with the signals and the next state of a reaction.
-pub fn with_reaction(a: Answer, signals: u64, state: u64) -> Reaction
-    ensures { λ r. ⌜ r ≡ Answers.withReaction a signals state ⌝ }
+// The answer to a run over one event, with the signals that it gave.
+pub fn reaction_of(c: Course, signals: Bits) -> Reaction
+    ensures { λ r. ⌜ r ≡ Answers.reactionOf c (whole signals) ⌝ }
 {
+    let state = c.state;
     Reaction {
-        number: a.number,
-        place: a.place,
-        statements: a.statements,
-        cells: a.cells,
+        number: c.number,
+        place: c.place,
+        statements: c.statements,
+        cells: c.cells,
         signals,
         state,
     }
@@ -116,9 +121,9 @@ pub fn with_signals(a: Answer, inputs: u16, outputs: u16) -> Listing
     }
 }
 
-// An answer to many events, with the state after the last of them.
-pub fn with_state(a: Answer, state: u64) -> Course
-    ensures { λ r. ⌜ r ≡ Answers.withState a state ⌝ }
+// An answer with the state after the last event.
+pub fn with_state(a: Answer, state: Bits) -> Course
+    ensures { λ r. ⌜ r ≡ Answers.withState a (whole state) ⌝ }
 {
     Course {
         number: a.number,
@@ -129,7 +134,7 @@ pub fn with_state(a: Answer, state: u64) -> Course
     }
 }
 
-// EVENT, STATE, BUFFER, in this order, of what the checks say; `needed` is the number of events.
+// EVENT, STATE, BUFFER, in this order, of what the checks say; `needed` is the length that the lent slices need.
 pub fn first_fault(events: bool, state: bool, room: bool, needed: usize) -> Stop
     ensures { λ r. ⌜ r ≡ Answers.stopOf (Answers.verdict Answers.passes events state room needed) ⌝ }
 {
@@ -154,12 +159,19 @@ pub fn first_fault(events: bool, state: bool, room: bool, needed: usize) -> Stop
     Stop::Nothing
 }
 
-// Whether both lent slices, so long, have an entry for each event.
-pub fn has_room(events: usize, signals: usize, states: usize) -> bool
-    ensures { λ r. ⌜ r ≡ (leb events signals && leb events states) ⌝ }
+// The length that the lent slices need: an entry for each event.
+pub fn needed(events: &[u64]) -> usize
+    ensures { λ r. ⌜ r ≡ length (now (events .entry)) / words * words ⌝ }
 {
-    if events <= signals {
-        return events <= states;
+    bits::count(events) * bits::WORDS
+}
+
+// Whether both lent slices, so long, are as long as needed.
+pub fn has_room(needed: usize, signals: usize, states: usize) -> bool
+    ensures { λ r. ⌜ r ≡ (leb needed signals && leb needed states) ⌝ }
+{
+    if needed <= signals {
+        return needed <= states;
     }
     false
 }

@@ -1,16 +1,16 @@
--- `below` meets its contract: both returns are 2 ^ n - 1.
+-- `below` meets its contract: 2 ^ n - 1, and where n is 64 or more every bit that a word has.
 use Prim.Native.Nat.{ℕ, _-_}
 use mathlib.Core.Path.{ap, _∙_}
 use native.Mathlib.Omega.{arith}
 use borrow.Author.Needs.{needs}
 use lib.Pow.{pow-pos}
 use Rattle.bits.specs.Bits.{has}
-use Rattle.bits.proofs.Laws.{has-below, one-shifted}
+use Rattle.bits.proofs.Laws.{has-below, has-below-word, one-shifted}
 use Rattle.bits.proofs.below.Statement.{statement}
 use Rattle.bits.proofs.below.Tie as tie
 
 returns : tie.Need-returns
-returns c = rw (c .if1 .taken) (has-below 64)
+returns c j inside = has-below-word 64 (c .before .args .n) j (c .if1 .taken) inside
 
 shl-result : tie.Need-shl-result
 shl-result c = search needs
@@ -21,7 +21,7 @@ sub-result c =
     omega (arith, one-shifted 64 n (omega arith), pow-pos n)
 
 returns-2 : tie.Need-returns-2
-returns-2 c j =
+returns-2 c j inside =
     let n : ℕ = c .before .args .n in
     ap (λ (top : ℕ). has (top - 1) j) (one-shifted 64 n (omega arith)) ∙ has-below n j
 

@@ -1,30 +1,28 @@
 -- The walk builds whichever statement stands at the row: it is a leaf, or has one or two parts, which the calls of itself build. The measure is the
 -- number of rows that are left.
-use mathlib.Core.Path.{sym, ap, _∙_}
+use mathlib.Core.Path.{sym, _∙_}
 use native.Mathlib.Omega.{arith}
 use borrow.Author.Needs.{needs}
 use lib.ListN.{length}
-use Rattle.number.specs.declared.StmtNo.{StmtNo}
 use Rattle.number.specs.Counts.{ofStmt}
-use Rattle.sheet.specs.Rows.{rowAt}
 use Rattle.builder.proofs.Walk.{leaf-does, one-does, two-does, ready-within, ready-number, ready-open, ready-leaf, ready-unary, ready-one}
 use Rattle.builder.proofs.Walk.{ready-close-one, ready-binary, ready-sets, ready-first, ready-left, ready-right, further-on, ready-close-two}
 use Prim.Native.Nat.{ℕ, _-_, _<_}
 use borrow.Fn.Kinds.{In}
 use borrow.Fn.PlainCycle.{Measures, is, falls, and}
-use Rattle.builder.proofs.statement.Reads as statement′
-use Rattle.builder.proofs.statement.Kinds as statement-kinds
-use Rattle.builder.proofs.+statement.Lts-statement as statement-lts
-use Rattle.builder.proofs.head_at.Reads as head-at-reads
-use Rattle.builder.proofs.end_at.Reads as end-at-reads
+use Rattle.sheet.proofs.first_part.Reads as first-part-reads
+use Rattle.sheet.proofs.second_part.Reads as second-part-reads
+use Rattle.sets.proofs.given.Reads as given-reads
 use Rattle.parts.proofs.close_one.Reads as close-one-reads
 use Rattle.parts.proofs.close_two.Reads as close-two-reads
 use Rattle.parts.proofs.go_of.Reads as go-of-reads
 use Rattle.parts.proofs.leaf_cells.Reads as leaf-cells-reads
 use Rattle.parts.proofs.open_one.Reads as open-one-reads
 use Rattle.parts.proofs.open_two.Reads as open-two-reads
-use Rattle.sets.proofs.given.Reads as given-reads
-use Rattle.sheet.proofs.first_part.Reads as first-part-reads
+use Rattle.builder.proofs.statement.Reads as statement′
+use Rattle.builder.proofs.statement.Kinds as statement-kinds
+use Rattle.builder.proofs.+statement.Lts-statement as statement-lts
+use Rattle.builder.proofs.head_at.Reads as head-at-reads
 use Rattle.builder.proofs.+statement.{statement}
 use Rattle.builder.proofs.+statement.Tie.{close}
 
@@ -54,8 +52,8 @@ calls t = (
   close-one-reads.Learnt,
   open-two-reads.Asked,
   open-two-reads.Learnt,
-  end-at-reads.Asked,
-  end-at-reads.Learnt,
+  second-part-reads.Asked,
+  second-part-reads.Learnt,
   go-of-reads.Asked,
   go-of-reads.Learnt,
   given-reads.Asked,
@@ -148,21 +146,20 @@ statement-statement-requires-2 t c κs =
     let part = ready-left ready e (a .g) (a .r) (a .kill) (at-open-two .open-two .ensures) in
     rw (at-first-part .first-part .ensures) (omega (arith, ready-within ready, start .pre .0), part)
 
-statement-end-at-requires : (t : ℕ) → statement-lts.Need-end-at-requires (calls t) (statement-at t) statement′.Post
-statement-end-at-requires t c κs =
+statement-second-part-requires : (t : ℕ) → statement-lts.Need-second-part-requires (calls t) (statement-at t) statement′.Post
+statement-second-part-requires t c κs =
     let at-h3 = c .before .before .before .before .before .before .before .before .before .before .before .before .before in
-    let at-first-part = at-h3 .before .before in
-    let at-head-at = at-first-part .before in
+    let at-head-at = at-h3 .before .before .before in
     let start = at-head-at .before .before .before .before .before in
-    rw (at-first-part .first-part .ensures) (ready-first (start .pre .1) (sym (at-head-at .head-at .ensures) ∙ at-h3 .h3 .given .1))
+    (ready-number (start .pre .1), ready-first (start .pre .1) (sym (at-head-at .head-at .ensures) ∙ at-h3 .h3 .given .1))
 
 statement-go-of-requires : (t : ℕ) → statement-lts.Need-go-of-requires (calls t) (statement-at t) statement′.Post
 statement-go-of-requires t c κs = search needs
 
 statement-statement-requires-3 : (t : ℕ) → statement-lts.Need-statement-requires-3 (calls t) (statement-at t) statement′.Post
 statement-statement-requires-3 t c κs =
-    let at-end-at = c .before .before .before in
-    let at-statement2 = at-end-at .before .before .before .before .before .before in
+    let at-second-part = c .before .before .before in
+    let at-statement2 = at-second-part .before .before .before .before .before .before in
     let at-open-two = at-statement2 .before .before .before .before .before in
     let at-h3 = at-open-two .before .before .before in
     let at-first-part = at-h3 .before .before in
@@ -172,7 +169,7 @@ statement-statement-requires-3 t c κs =
     let ready = start .pre .1 in
     let e = sym (at-head-at .head-at .ensures) ∙ at-h3 .h3 .given .1 in
     let first = rw (at-first-part .first-part .ensures) at (at-statement2 .statement2 .ensures) in
-    let place = at-end-at .end-at .ensures ∙ ap (λ (w : StmtNo). rowAt (a .rows .now) w .end) (at-first-part .first-part .ensures) in
+    let place = at-second-part .second-part .ensures in
     let part = ready-right ready e (a .g) (a .r) (a .kill) (at-open-two .open-two .ensures) first place
     (omega (arith, at-statement2 .statement2 .kept .1 .1 .1 .0, ready .lists)) in
     let on = further-on ready e (a .g) (a .r) (a .kill) (at-open-two .open-two .ensures) first place in
@@ -188,8 +185,8 @@ statement-given-requires t c κs =
 statement-close-two-requires : (t : ℕ) → statement-lts.Need-close-two-requires (calls t) (statement-at t) statement′.Post
 statement-close-two-requires t c κs =
     let at-statement3 = c .before .before .before .before .before .before in
-    let at-end-at = at-statement3 .before .before .before .before in
-    let at-statement2 = at-end-at .before .before .before .before .before .before in
+    let at-second-part = at-statement3 .before .before .before .before in
+    let at-statement2 = at-second-part .before .before .before .before .before .before in
     let at-open-two = at-statement2 .before .before .before .before .before in
     let at-h3 = at-open-two .before .before .before in
     let at-first-part = at-h3 .before .before in
@@ -199,7 +196,7 @@ statement-close-two-requires t c κs =
     let ready = start .pre .1 in
     let e = sym (at-head-at .head-at .ensures) ∙ at-h3 .h3 .given .1 in
     let first = rw (at-first-part .first-part .ensures) at (at-statement2 .statement2 .ensures) in
-    let place = at-end-at .end-at .ensures ∙ ap (λ (w : StmtNo). rowAt (a .rows .now) w .end) (at-first-part .first-part .ensures) in
+    let place = at-second-part .second-part .ensures in
     ready-close-two ready e (a .g) (a .r) (a .kill) (at-open-two .open-two .ensures) first place (at-statement3 .statement3 .ensures)
 
 statement-same-length : (t : ℕ) → statement-lts.Need-same-length (calls t) (statement-at t) statement′.Post
@@ -252,8 +249,8 @@ statement-returns-3 t c =
     let at-given = at-close-two .before in
     let at-statement3 = at-given .before .before .before .before .before .before in
     let at-go-of = at-statement3 .before .before .before in
-    let at-end-at = at-go-of .before in
-    let at-statement2 = at-end-at .before .before .before .before .before .before in
+    let at-second-part = at-go-of .before in
+    let at-statement2 = at-second-part .before .before .before .before .before .before in
     let at-open-two = at-statement2 .before .before .before .before .before in
     let at-h3 = at-open-two .before .before .before in
     let at-first-part = at-h3 .before .before in
@@ -261,7 +258,7 @@ statement-returns-3 t c =
     let start = at-head-at .before .before .before .before .before in
     let a = start .args in
     let first = rw (at-first-part .first-part .ensures) at (at-statement2 .statement2 .ensures) in
-    let place = at-end-at .end-at .ensures ∙ ap (λ (w : StmtNo). rowAt (a .rows .now) w .end) (at-first-part .first-part .ensures) in
+    let place = at-second-part .second-part .ensures in
     two-does (at-given .given .result) (sym (at-head-at .head-at .ensures) ∙ at-h3 .h3 .given .1) (at-open-two .open-two .ensures) first place (at-go-of .go-of .ensures) (at-statement3 .statement3 .ensures)
     (at-given .given .ensures) (at-close-two .close-two .ensures)
 
@@ -280,7 +277,7 @@ pub +statement-spec : {M : Type 1} → statement M
     (statement-enum-known-h-3 t)
     (statement-open-two-requires t)
     (statement-statement-requires-2 t)
-    (statement-end-at-requires t)
+    (statement-second-part-requires t)
     (statement-go-of-requires t)
     (statement-statement-requires-3 t)
     (statement-given-requires t)

@@ -1,5 +1,5 @@
 -- The head, the root from its lists on, and the foot make the netlist; the count says whether there is room.
-use mathlib.Core.Path.{refl}
+use mathlib.Core.Path.{refl, sym, _∙_}
 use native.Mathlib.Omega.{arith}
 use Rattle.builder.proofs.Ends.{sheet-ready, sheet-signals, netlist-does, over, not-over}
 use borrow.Author.Needs.{needs}
@@ -51,12 +51,18 @@ signal-cells-requires c κs =
     let at-start = at-statement .before .before .before .before .before .before .before .before .before .before .before .before .before .before in
     (sheet-signals (at-start .pre .is) .1, at-statement .statement .kept .1 .1 .1 .0)
 
+cast-many-cells : tie.Need-cast-many-cells
+cast-many-cells c = search needs
+
+many-cells-requires : tie.Need-many-cells-requires
+many-cells-requires c κs = search needs
+
 same-length : tie.Need-same-length
 same-length c = search needs
 
 returns : tie.Need-returns
 returns c =
-    let at-signal-cells = c .before .before .before in
+    let at-signal-cells = c .before .before .before .before in
     let at-statement = at-signal-cells .before .before .before .before .before .before in
     let at-low = at-statement .before in
     let at-high = at-low .before in
@@ -67,14 +73,14 @@ returns c =
     let a = at-start .args in
     let root = rw (at-new2 .new2 .ensures, at-new .new .ensures, at-high .high .ensures, at-low .low .ensures) at (at-statement .statement .ensures) in
     netlist-does (a .inputs) (a .signals) (at-head-cells .head-cells .ensures) root (at-signal-cells .signal-cells .ensures)
-    (over (at-statement .statement .result .count) (c .if1 .taken))
+    (over (at-statement .statement .result .count) (sym (c .before .many-cells .ensures) ∙ c .if1 .taken))
 
 same-length-2 : tie.Need-same-length-2
 same-length-2 c = search needs
 
 returns-2 : tie.Need-returns-2
 returns-2 c =
-    let at-signal-cells = c .before .before .before in
+    let at-signal-cells = c .before .before .before .before in
     let at-statement = at-signal-cells .before .before .before .before .before .before in
     let at-low = at-statement .before in
     let at-high = at-low .before in
@@ -85,7 +91,7 @@ returns-2 c =
     let a = at-start .args in
     let root = rw (at-new2 .new2 .ensures, at-new .new .ensures, at-high .high .ensures, at-low .low .ensures) at (at-statement .statement .ensures) in
     netlist-does (a .inputs) (a .signals) (at-head-cells .head-cells .ensures) root (at-signal-cells .signal-cells .ensures)
-    (not-over (at-statement .statement .result .count) (c .if1 .left))
+    (not-over (at-statement .statement .result .count) (sym (c .before .many-cells .ensures) ∙ c .if1 .left))
 
 pub build-netlist-spec : {M : Type 1} → statement M
 build-netlist-spec =
@@ -103,6 +109,8 @@ build-netlist-spec =
     slice-aggregate-signal-cells
     add-signal-cells
     signal-cells-requires
+    cast-many-cells
+    many-cells-requires
     same-length
     returns
     same-length-2

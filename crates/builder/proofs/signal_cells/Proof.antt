@@ -4,6 +4,7 @@ use mathlib.Core.Path.{_≡_, refl, sym, _∙_}
 use native.Mathlib.Omega.{arith}
 use borrow.Author.Needs.{needs}
 use lib.ListN.{length}
+use Rattle.limits.specs.Limits.{maxSignals}
 use Rattle.parts.specs.Contract.{nets}
 use Rattle.parts.proofs.Laws.{nets-at}
 use Rattle.builder.proofs.Ends.{Signals, signals-step, signals-length, signals-end}
@@ -11,7 +12,7 @@ use Rattle.builder.proofs.signal_cells.Statement.{statement}
 use Rattle.builder.proofs.signal_cells.Tie as tie
 
 abbrev Inv-loop : tie.InvT-loop
-Inv-loop cells₀ lists from end s₀ cells s = Signals (nets lists) cells₀ cells from end s × (end ≤ 64) × (length lists ≡ 64)
+Inv-loop cells₀ lists from end s₀ cells s = Signals (nets lists) cells₀ cells from end s × (end ≤ maxSignals) × (length lists ≡ maxSignals)
 
 abbrev μ-loop : tie.MeasureT-loop
 μ-loop cells₀ lists from end s₀ cells s = end - s

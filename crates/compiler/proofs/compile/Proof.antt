@@ -21,7 +21,7 @@ judge-requires c κs =
     let start = at-read-sheet .before .before .before .before .before .before in
     let lent = start .pre in
     let was = sheet-was-read (lent .rows-long) (at-read-sheet .read-sheet .ensures) (at-c .c .given .1) in
-    (some-read was, omega (arith, lent .sets-long, at-read-sheet .read-sheet .kept), omega (arith, lent .rows-long, lent .sets-long))
+    (some-read was, omega (arith, lent .statics-long, at-read-sheet .read-sheet .kept), omega (arith, lent .rows-long, lent .statics-long))
 
 enum-known-f-2 : tie.Need-enum-known-f-2
 enum-known-f-2 c = search needs

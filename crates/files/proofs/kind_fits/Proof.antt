@@ -1,5 +1,5 @@
 -- The cell's number says which kinds may stand there.
-use Rattle.files.proofs.Judging.{at-low, at-high, at-input, at-gate}
+use Rattle.cells.proofs.Fitting.{at-low, at-high, at-input, at-gate}
 use native.Mathlib.Omega.{arith}
 use mathlib.Core.Path.{sym}
 use Prim.Native.Nat.{_<_}

@@ -76,7 +76,8 @@ loop-again c =
     let at-loop-test = at-new .before in
     let at-loop = at-loop-test .before in
     let cell = rw (at-new .new .ensures) at (sym (at-read-cell .read-cell .ensures) ∙ at-c .c .given .1) in
-    rw (c .tally .ensures, at-fill .fill .ensures, at-new .new .ensures) (goes-on _ _ _ _ _ (at-loop .loop .inv) (at-loop-test .loop-test .taken) cell)
+    let next = goes-on _ _ _ _ _ (at-loop .loop .inv) (at-loop-test .loop-test .taken) cell in
+    rw (c .tally .ensures, at-fill .fill .ensures, at-new .new .ensures) next
 
 same-length-2 : tie.Need-same-length-2 Inv-loop μ-loop
 same-length-2 c = c .before .loop .inv .long

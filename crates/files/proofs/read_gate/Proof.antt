@@ -14,8 +14,8 @@ enum-known-f c = search needs
 enum-known-x : tie.Need-enum-known-x
 enum-known-x c = search needs
 
-gate-of-requires : tie.Need-gate-of-requires
-gate-of-requires c κs = search needs
+gate-in-requires : tie.Need-gate-in-requires
+gate-in-requires c κs = search needs
 
 returns : tie.Need-returns
 unfolding gateOf
@@ -29,9 +29,9 @@ returns-2 c =
     let at-x = c .before .before in
     let at-read-pair = at-x .before .before in
     let pair = sym (at-read-pair .read-pair .ensures) ∙ at-x .x .given .1 in
-    simp (pair, c .gate-of .ensures)
+    simp (pair, c .gate-in .ensures)
 
 pub read-gate-spec : {M : Type 1} → statement M
 read-gate-spec =
     tie.close
-    (tie.spec read-pair-requires enum-known-f enum-known-x gate-of-requires returns returns-2)
+    (tie.spec read-pair-requires enum-known-f enum-known-x gate-in-requires returns returns-2)

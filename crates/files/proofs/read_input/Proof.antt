@@ -54,7 +54,8 @@ returns-2 c =
     let number = sym (at-read-number .read-number .ensures) ∙ at-r .r .given .1 in
     let v = at-r .r .given .0 .0 in
     let whole : v % 65536 ≡ v = omega (arith, value-small _ _ number) in
-    let right = input-right (start .args .x) (start .args .at) v (at-r .r .given .0 .1 .0) (rw (at-number .number .ensures) at (at-if1 .if1 .taken)) in
+    let before-it = rw (at-number .number .ensures) at (at-if1 .if1 .taken) in
+    let right = input-right (start .args .x) (start .args .at) v (at-r .r .given .0 .1 .0) before-it in
     simp (number, c .new .ensures, whole, right)
 
 returns-3 : tie.Need-returns-3

@@ -1,5 +1,5 @@
 -- Each arm is the case of `operandsAt` with its kind, and the last one is what is left: 3 to 5.
-use Rattle.files.proofs.Reading.{gate-operands}
+use Rattle.files.proofs.Standing.{gate-operands}
 use Rattle.files.specs.Read.{operandsAt}
 use mathlib.Core.Path.{sym, _∙_}
 use Rattle.number.specs.Number.{pick}

@@ -1,5 +1,5 @@
 -- What the first operand is, then what the second is.
-use Rattle.files.specs.Read.{pairOf, secondOf}
+use Rattle.files.specs.Read.{pairOf, withSecond}
 use mathlib.Core.Path.{sym, _∙_}
 use borrow.Author.Needs.{needs}
 use Rattle.files.proofs.read_pair.Statement.{statement}
@@ -30,7 +30,7 @@ returns c =
     simp first
 
 returns-2 : tie.Need-returns-2
-unfolding pairOf secondOf
+unfolding pairOf withSecond
 returns-2 c =
     let at-f2 = c .before in
     let at-read-net2 = at-f2 .before .before in
@@ -41,7 +41,7 @@ returns-2 c =
     simp (first, second)
 
 returns-3 : tie.Need-returns-3
-unfolding pairOf secondOf
+unfolding pairOf withSecond
 returns-3 c =
     let at-y = c .before in
     let at-read-net2 = at-y .before .before in

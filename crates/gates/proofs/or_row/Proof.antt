@@ -1,6 +1,7 @@
 -- `or_row` meets its contract: what is made before code j and what is left to make are the whole.
 use Prim.Native.Nat.{_-_}
 use borrow.Author.Needs.{needs}
+use Rattle.limits.specs.Limits.{maxCodes}
 use Rattle.gates.proofs.Laws.{wrote-length}
 use Rattle.gates.proofs.OrRow.{Rowing, rowing-start, rowing-step, rowing-end}
 use Rattle.gates.proofs.or_row.Statement.{statement}
@@ -10,7 +11,7 @@ abbrev Inv-loop : tie.InvT-loop
 Inv-loop cells₀ count a b nets₀ n₀ j₀ cells nets n j = Rowing cells₀ n₀ a b cells nets n j
 
 abbrev μ-loop : tie.MeasureT-loop
-μ-loop cells₀ count a b nets₀ n₀ j₀ cells nets n j = 10 - j
+μ-loop cells₀ count a b nets₀ n₀ j₀ cells nets n j = maxCodes - j
 
 loop-holds : tie.Need-loop-holds Inv-loop μ-loop
 loop-holds c = rowing-start _ _ _ _ (search needs) (search needs)

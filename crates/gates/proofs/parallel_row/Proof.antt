@@ -94,7 +94,7 @@ array-set-from-nets-3 c = search needs
 returns : tie.Need-returns Inv-loop μ-loop
 returns c =
     let last = c .before .before .before in
-    let one = last .before .before .before .before .before .before .before .before in
+    let one = last .before .before .before .before .before .before .before .before .before in
     let ended = one .before .before .before .before .before in
     let code-1 = rw (one .before .member2 .ensures) at (one .one-code2 .ensures) in
     let code-0 = rw (last .before .member3 .ensures) at (last .code-zero .ensures) in

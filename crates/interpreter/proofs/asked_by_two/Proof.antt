@@ -8,6 +8,9 @@ use Rattle.interpreter.proofs.asked_by_two.Tie as tie
 enum-told : tie.Need-enum-told
 enum-told c = search needs
 
+empty-requires : tie.Need-empty-requires
+empty-requires c κs = search needs
+
 enum-known-b : tie.Need-enum-known-b
 enum-known-b c = search needs
 
@@ -17,16 +20,28 @@ asked-requires c κs = search needs
 enum-told-2 : tie.Need-enum-told-2
 enum-told-2 c = search needs
 
+empty-requires-2 : tie.Need-empty-requires-2
+empty-requires-2 c κs = search needs
+
 returns : tie.Need-returns
-returns c = rw (c .enum-told .given .1) (covers-none 0 (λ s. refl))
+returns c = rw (c .before .enum-told .given .1) (covers-none _ (λ s. refl))
 
 returns-2 : tie.Need-returns-2
-returns-2 c =
-    let at-b = c .before .before in
-    rw (at-b .b .given .1) (c .asked .ensures)
+returns-2 c = rw (c .before .before .b .given .1) (c .asked .ensures)
 
 returns-3 : tie.Need-returns-3
-returns-3 c = rw (c .enum-told2 .given .1) (covers-none 0 (λ s. refl))
+returns-3 c = rw (c .before .enum-told2 .given .1) (covers-none _ (λ s. refl))
 
 pub asked-by-two-spec : {M : Type 1} → statement M
-asked-by-two-spec = tie.close (tie.spec enum-told enum-known-b asked-requires enum-told-2 returns returns-2 returns-3)
+asked-by-two-spec =
+    tie.close
+    (tie.spec
+    enum-told
+    empty-requires
+    enum-known-b
+    asked-requires
+    enum-told-2
+    empty-requires-2
+    returns
+    returns-2
+    returns-3)

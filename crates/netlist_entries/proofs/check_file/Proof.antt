@@ -29,7 +29,7 @@ cast-acceptance c =
     let at-h = c .before .before in
     let at-check-file = at-h .before .before .before .before in
     let did = rw (at-h .h .given .1) at (at-check-file .check-file .ensures) in
-    let few = file-few _ did (search needs) (search needs) in
+    let few = file-few _ did (search needs) in
     omega (arith, few)
 
 acceptance-requires : tie.Need-acceptance-requires

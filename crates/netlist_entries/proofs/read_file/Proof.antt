@@ -35,21 +35,21 @@ cast-handed c =
     let at-h = c .before .before .before in
     let at-check-file = at-h .before .before .before .before in
     let did = rw (at-h .h .given .1) at (at-check-file .check-file .ensures) in
-    omega (arith, few-signals _ did (search needs) (search needs))
+    omega (arith, few-signals _ did (search needs))
 
 cast-handed-2 : tie.Need-cast-handed-2
 cast-handed-2 c =
     let at-h = c .before .before .before .before in
     let at-check-file = at-h .before .before .before .before in
     let did = rw (at-h .h .given .1) at (at-check-file .check-file .ensures) in
-    omega (arith, few-signals _ did (search needs) (search needs))
+    omega (arith, few-signals _ did (search needs))
 
 array-share-prefix-cells : tie.Need-array-share-prefix-cells
 array-share-prefix-cells c =
     let at-h = c .before .before .before .before in
     let at-check-file = at-h .before .before .before .before in
     let did = rw (at-h .h .given .1) at (at-check-file .check-file .ensures) in
-    let few = file-few _ did (search needs) (search needs) in
+    let few = file-few _ did (search needs) in
     omega (arith, few, at-check-file .check-file .kept)
 
 slice-aggregate-handed : tie.Need-slice-aggregate-handed
@@ -57,16 +57,16 @@ slice-aggregate-handed c =
     let at-h = c .before .before .before .before .before in
     let at-check-file = at-h .before .before .before .before in
     let did = rw (at-h .h .given .1) at (at-check-file .check-file .ensures) in
-    file-whole _ did (search needs) (search needs)
+    file-whole _ did (search needs)
 
 handed-requires : tie.Need-handed-requires
 handed-requires c κs =
     let at-h = c .before .before .before .before .before .before in
     let at-check-file = at-h .before .before .before .before in
     let did = rw (at-h .h .given .1) at (at-check-file .check-file .ensures) in
-    let few = file-few _ did (search needs) (search needs) in
-    let long = file-whole _ did (search needs) (search needs) in
-    (file-packed _ did (search needs) (search needs), omega (arith, few, long))
+    let few = file-few _ did (search needs) in
+    let long = file-whole _ did (search needs) in
+    (file-packed _ did (search needs), omega (arith, few, long))
 
 returns : tie.Need-returns
 returns c =
@@ -84,7 +84,7 @@ returns-2 c =
     let at-h = at-handed .before .before .before .before .before .before .before in
     let at-check-file = at-h .before .before .before .before in
     let did = rw (at-h .h .given .1) at (at-check-file .check-file .ensures) in
-    listed-file _ did (search needs) (search needs) (at-handed .handed .ensures)
+    listed-file _ did (search needs) (at-handed .handed .ensures)
 
 pub read-file-spec : {M : Type 1} → statement M
 read-file-spec =

@@ -1,5 +1,5 @@
 -- The netlist's fault answers and nothing is written; otherwise its file, or BUFFER.
-use Rattle.netlists.proofs.Running.{cells-sound}
+use Rattle.netlists.proofs.Running.{cells-formed}
 use Rattle.netlists.specs.Words.{judgeCells}
 use Rattle.netlist_entries.proofs.NetEntries.{net-refused, words-few}
 use Rattle.netlist_entries.proofs.FileEntries.{net-written-refused, words-written}
@@ -26,7 +26,7 @@ written-requires : tie.Need-written-requires
 written-requires c κs =
     let at-check-cells = c .before .before .before .before in
     let did = rw (c .before .enum-told .given .1) at (at-check-cells .check-cells .ensures) in
-    (cells-sound _ _ _ did (search needs), words-few _ _ _ did)
+    (cells-formed _ _ _ did, words-few _ _ _ did)
 
 returns : tie.Need-returns
 returns c =

@@ -70,7 +70,8 @@ loop-again c =
     let at-loop-test = at-new .before in
     let at-loop = at-loop-test .before in
     let word = rw (at-new .new .ensures) at (sym (at-judge-word .judge-word .ensures) ∙ at-enum-told .enum-told .given .1) in
-    rw (c .tally .ensures, at-cell-at .cell-at .ensures, at-new .new .ensures) (goes-on _ _ _ (at-loop .loop .inv) (at-loop-test .loop-test .taken) word)
+    let next = goes-on _ _ _ (at-loop .loop .inv) (at-loop-test .loop-test .taken) word in
+    rw (c .tally .ensures, at-cell-at .cell-at .ensures, at-new .new .ensures) next
 
 returns-2 : tie.Need-returns-2 Inv-loop μ-loop
 returns-2 c = ends _ _ _ (c .before .loop .inv) (omega (arith, c .loop-test .left))

@@ -1,6 +1,6 @@
 -- Each arm is the case of the definition.
 use native.Mathlib.Numerals.{add-one}
-use Rattle.files.specs.File.{operandsFit}
+use Rattle.cells.specs.Netlist.{operandsFit}
 use mathlib.Core.Path.{_∙_}
 use borrow.Author.Needs.{needs}
 use Rattle.netlists.proofs.operands_fit.Statement.{statement}
@@ -39,18 +39,6 @@ are-nets-requires c κs = search needs
 enum-known-c-3 : tie.Need-enum-known-c-3
 enum-known-c-3 c = search needs
 
-are-nets-requires-2 : tie.Need-are-nets-requires-2
-are-nets-requires-2 c κs = search needs
-
-enum-known-c-4 : tie.Need-enum-known-c-4
-enum-known-c-4 c = search needs
-
-are-nets-requires-3 : tie.Need-are-nets-requires-3
-are-nets-requires-3 c κs = search needs
-
-enum-known-c-5 : tie.Need-enum-known-c-5
-enum-known-c-5 c = search needs
-
 number-requires-3 : tie.Need-number-requires-3
 number-requires-3 c κs = search needs
 
@@ -75,15 +63,7 @@ returns-4 c = c .are-nets .ensures ∙ simp (c .before .before .c2 .given .1)
 
 returns-5 : tie.Need-returns-5
 unfolding operandsFit
-returns-5 c = c .are-nets2 .ensures ∙ simp (c .before .before .c3 .given .1)
-
-returns-6 : tie.Need-returns-6
-unfolding operandsFit
-returns-6 c = c .are-nets3 .ensures ∙ simp (c .before .before .c4 .given .1)
-
-returns-7 : tie.Need-returns-7
-unfolding operandsFit
-returns-7 c = simp (c .before .before .c5 .given .1, c .number3 .ensures)
+returns-5 c = simp (c .before .before .c3 .given .1, c .number3 .ensures)
 
 pub operands-fit-spec : {M : Type 1} → statement M
 operands-fit-spec =
@@ -100,16 +80,10 @@ operands-fit-spec =
     enum-known-c-2
     are-nets-requires
     enum-known-c-3
-    are-nets-requires-2
-    enum-known-c-4
-    are-nets-requires-3
-    enum-known-c-5
     number-requires-3
     cast-result-3
     returns
     returns-2
     returns-3
     returns-4
-    returns-5
-    returns-6
-    returns-7)
+    returns-5)

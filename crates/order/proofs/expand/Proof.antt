@@ -2,7 +2,7 @@
 use mathlib.Core.Path.{sym, _∙_}
 use native.Mathlib.Omega.{arith}
 use borrow.Author.Needs.{needs}
-use Rattle.order.proofs.Operands.{needs-first, needs-second}
+use Rattle.cells.proofs.Needing.{needs-first, needs-second}
 use Rattle.order.proofs.Hunts.{note-room, noted-lent, noted-even, expand-none, expand-both}
 use Rattle.order.proofs.expand.Statement.{statement}
 use Rattle.order.proofs.expand.Tie as tie

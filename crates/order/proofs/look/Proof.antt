@@ -2,8 +2,8 @@
 use mathlib.Core.Path.{sym, _∙_}
 use native.Mathlib.Omega.{arith}
 use borrow.Author.Needs.{needs}
+use Rattle.cells.proofs.Needing.{needs-first, needs-second, needs-only, needs-none}
 use Rattle.order.specs.Search.{IsDone}
-use Rattle.order.proofs.Operands.{needs-first, needs-second, needs-only, needs-none}
 use Rattle.order.proofs.look.Statement.{statement}
 use Rattle.order.proofs.look.Tie as tie
 

@@ -5,7 +5,7 @@ use native.Mathlib.Omega.{arith}
 use borrow.Author.Needs.{needs}
 use lib.ListN.{length}
 use Rattle.number.specs.Counts.{ofCell}
-use Rattle.order.specs.Paths.{cellsOf}
+use Rattle.cells.specs.Words.{cellsOf}
 use Rattle.order.proofs.Columns.{still-lent}
 use Rattle.order.proofs.Hunts.{Passed, passed-more, passed-low}
 use Rattle.order.proofs.lowest.Statement.{statement}

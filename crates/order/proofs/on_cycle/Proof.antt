@@ -5,7 +5,7 @@ use mathlib.Core.Path.{_≡_, refl, sym, _∙_}
 use native.Mathlib.Omega.{arith}
 use borrow.Author.Needs.{needs}
 use lib.ListN.{length}
-use Rattle.order.specs.Paths.{cellsOf}
+use Rattle.cells.specs.Words.{cellsOf}
 use Rattle.order.specs.Search.{zeros}
 use Rattle.order.proofs.Columns.{zeros-all}
 use Rattle.order.proofs.Hunts.{Between, between-begins, goes-on, all-seen}

@@ -4,8 +4,7 @@ use mathlib.Core.Path.{_≡_, refl, _∙_}
 use native.Mathlib.Omega.{arith}
 use lib.ListN.{length, length-map}
 use borrow.Author.Needs.{needs}
-use Rattle.gates.specs.Store.{cellIn}
-use Rattle.order.specs.Paths.{cellsOf}
+use Rattle.cells.specs.Words.{cellIn, cellsOf}
 use Rattle.order.proofs.Searches.{Upto, begins, upto-more, all-placed}
 use Rattle.order.proofs.place_all.Statement.{statement}
 use Rattle.order.proofs.place_all.Tie as tie

@@ -3,7 +3,7 @@ use mathlib.Core.Path.{_≡_, refl, _∙_}
 use native.Mathlib.Omega.{arith}
 use lib.ListN.{length, length-set}
 use borrow.Author.Needs.{needs}
-use Rattle.order.specs.Paths.{cellsOf}
+use Rattle.cells.specs.Words.{cellsOf}
 use Rattle.order.specs.Search.{mark, left}
 use Rattle.order.proofs.Searches.{Under, under-begins, under-goes-on, under-ends}
 use Rattle.order.proofs.search.Statement.{statement}

@@ -13,8 +13,8 @@ enum-told c = search needs
 new-requires : tie.Need-new-requires
 new-requires c κs = search needs
 
-array-copy-out-t21 : tie.Need-array-copy-out-t21
-array-copy-out-t21 c = search needs
+array-copy-out-t22 : tie.Need-array-copy-out-t22
+array-copy-out-t22 c = search needs
 
 fill-requires : tie.Need-fill-requires
 fill-requires c κs = search needs
@@ -79,7 +79,7 @@ returns c =
     let a = at-start .args in
     let filled = rw (at-new .new .ensures) at (at-fill .fill .ensures) in
     let codes = c .with-code0 .ensures ∙ ap (λ (z : CellNo). withCode0 z (a .p .codes)) (c .before .low .ensures) in
-    rw (at-enum-told .enum-told .given .1) (loop-closes (a .count) (a .p .count) (a .g) (a .r) (a .p .sel) filled codes)
+    rw (at-enum-told .enum-told .given .1) (loop-closes (a .count) (a .g) (a .r) (a .p) filled codes)
 
 same-length-2 : tie.Need-same-length-2
 same-length-2 c = search needs
@@ -94,7 +94,7 @@ returns-2 c =
     let at-start = at-u .before .before .before .before .before in
     let a = at-start .args in
     let gated = rw (at-signal-cell .signal-cell .ensures) at (at-and2 .and2 .ensures) in
-    rw (at-u .u .given .1) (watching-closes _ (a .count) (a .g) (a .r) (a .p .sel) (at-and .and .ensures) gated (at-or .or .ensures) (c .with-code02 .ensures))
+    rw (at-u .u .given .1) (watching-closes (a .count) (a .g) (a .r) (a .p) _ (at-and .and .ensures) gated (at-or .or .ensures) (c .with-code02 .ensures))
 
 same-length-3 : tie.Need-same-length-3
 same-length-3 c = search needs
@@ -105,12 +105,12 @@ returns-3 c =
     let at-enum-told2 = at-or2 .before .before .before .before in
     let at-start = at-enum-told2 .before .before .before .before .before in
     let a = at-start .args in
-    rw (at-enum-told2 .enum-told2 .given .1) (trap-closes (a .count) (a .g) (a .r) (a .p .sel) (at-or2 .or2 .ensures) (c .trap-row .ensures))
+    rw (at-enum-told2 .enum-told2 .given .1) (trap-closes (a .count) (a .g) (a .r) (a .p) (at-or2 .or2 .ensures) (c .trap-row .ensures))
 
 returns-4 : tie.Need-returns-4
 returns-4 c =
     let a = c .before .before .before .before .before .args in
-    rw (c .enum-told3 .given .1) (signal-closes _ (a .count) (a .p .count) (a .g) (a .r) (a .p .sel) _ (a .p .codes))
+    rw (c .enum-told3 .given .1) (signal-closes (a .count) (a .g) (a .r) (a .p) _ _)
 
 pub close-one-spec : {M : Type 1} → statement M
 close-one-spec =
@@ -118,7 +118,7 @@ close-one-spec =
     (tie.spec
     enum-told
     new-requires
-    array-copy-out-t21
+    array-copy-out-t22
     fill-requires
     low-requires
     with-code0-requires

@@ -29,7 +29,7 @@ returns c =
     let at-start = at-or .before .before .before .before .before in
     let a = at-start .args in
     let filled = rw (at-new .new .ensures) at (at-fill .fill .ensures) in
-    parallel-closes (has (a .keep)) (a .count) (a .g) (a .kill) (a .p .count) (a .p .sel) (a .p .codes) (a .q .count) (a .q .sel) (a .q .codes)
+    parallel-closes (has (a .keep)) (record { start = a .count; go = a .g; kill = a .kill }) (a .p) (a .q)
     (at-or .or .ensures) (at-parallel-row .parallel-row .ensures) filled
 
 pub close-parallel-spec : {M : Type 1} → statement M

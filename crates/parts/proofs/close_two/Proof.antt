@@ -45,7 +45,7 @@ returns c =
     let a = at-start .args in
     let codes = at-with-code0 .with-code0 .ensures ∙ ap (λ (z : CellNo). withCode0 z (a .p .codes)) (at-low .low .ensures) in
     rw (at-enum-told .enum-told .given .1)
-    (sequence-closes (has (a .keep)) (a .count) (a .g) (a .kill) (a .p .count) (a .p .sel) (a .p .codes) (a .q .count) (a .q .sel) (a .q .codes)
+    (sequence-closes (has (a .keep)) (record { start = a .count; go = a .g; kill = a .kill }) (a .p) (a .q)
     (rw codes at (at-join .join .ensures)))
 
 same-length-2 : tie.Need-same-length-2
@@ -55,7 +55,7 @@ returns-2 : tie.Need-returns-2
 returns-2 c =
     let a = c .before .before .before .before .before .before .before .before .before .args in
     rw (c .before .before .before .before .enum-told2 .given .1)
-    (present-closes (has (a .keep)) (a .count) (a .g) (a .kill) (a .p .count) (a .p .sel) (a .p .codes) (a .q .count) (a .q .sel) (a .q .codes) _
+    (present-closes (has (a .keep)) (record { start = a .count; go = a .g; kill = a .kill }) (a .p) (a .q) _
     (c .before .before .join2 .ensures))
 
 same-length-3 : tie.Need-same-length-3

@@ -1,4 +1,4 @@
--- The joined word holds both runs' emissions.
+-- The joined set holds both runs' emissions.
 use Rattle.rules.proofs.Meanings.{followed-means}
 use borrow.Author.Needs.{needs}
 use Rattle.rules.proofs.followed.Statement.{statement}
@@ -9,8 +9,8 @@ join-requires c κs = search needs
 
 returns : tie.Need-returns
 returns c =
-    let entry = c .before in
-    λ p q ma mb. followed-means (entry .args .a) (entry .args .b) p q ma mb (c .join .result) (c .join .ensures) (entry .pre)
+    let start = c .before .before .before .before in
+    λ p q ma mb. followed-means (start .args .a) (start .args .b) p q ma mb (c .join .result) (c .join .ensures) (start .pre)
 
 pub followed-spec : {M : Type 1} → statement M
 followed-spec = tie.close (tie.spec join-requires returns)

@@ -14,33 +14,52 @@ idle-requires c κs = search needs
 enum-known-l : tie.Need-enum-known-l
 enum-known-l c = search needs
 
+empty-requires : tie.Need-empty-requires
+empty-requires c κs = search needs
+
+empty-requires-2 : tie.Need-empty-requires-2
+empty-requires-2 c κs = search needs
+
 halt-bit-requires : tie.Need-halt-bit-requires
 halt-bit-requires c κs = search needs
 
 add-requires : tie.Need-add-requires
 add-requires c κs =
-    let bit = rw (c .before .before .l .given .1) at (c .before .before .before .before .pre) in
+    let at-l = c .before .before .before .before in
+    let start = at-l .before .before in
+    let bit = rw (at-l .l .given .1) at (start .pre) in
     rw (c .halt-bit .ensures) bit
 
 enum-known-l-2 : tie.Need-enum-known-l-2
 enum-known-l-2 c = search needs
 
-number-requires : tie.Need-number-requires
-number-requires c κs = search needs
+empty-requires-3 : tie.Need-empty-requires-3
+empty-requires-3 c κs = search needs
 
-cast-add : tie.Need-cast-add
-cast-add c = search needs
+signal-bit-requires : tie.Need-signal-bit-requires
+signal-bit-requires c κs = search needs
 
 add-requires-2 : tie.Need-add-requires-2
 add-requires-2 c κs =
-    let bit = rw (c .before .before .l2 .given .1) at (c .before .before .before .before .pre) in
-    rw (c .number .ensures) bit
+    let at-l2 = c .before .before .before in
+    let start = at-l2 .before .before in
+    let bit = rw (at-l2 .l2 .given .1) at (start .pre) in
+    rw (c .signal-bit .ensures) bit
+
+empty-requires-4 : tie.Need-empty-requires-4
+empty-requires-4 c κs = search needs
 
 enum-known-l-3 : tie.Need-enum-known-l-3
 enum-known-l-3 c = search needs
 
-cast-t11 : tie.Need-cast-t11
-cast-t11 c = search needs
+empty-requires-5 : tie.Need-empty-requires-5
+empty-requires-5 c κs = search needs
+
+cast-t15 : tie.Need-cast-t15
+cast-t15 c = search needs
+
+empty-requires-6 : tie.Need-empty-requires-6
+empty-requires-6 c κs = search needs
 
 returns : tie.Need-returns
 unfolding start
@@ -48,20 +67,24 @@ returns c = λ E. rw (c .before .enum-told .given .1) (c .idle .ensures)
 
 returns-2 : tie.Need-returns-2
 returns-2 c =
-    let l-given-1 = c .before .before .before .l .given .1 in
-    let l-given-0-0 = c .before .before .before .l .given .0 .0 in
-    let halt-bit-ensures = c .before .halt-bit .ensures in
-    λ E. rw l-given-1 (halt-means E (l-given-0-0) (c .add .result) (rw halt-bit-ensures at (c .add .ensures)))
+    let at-empty2 = c .before .before in
+    let at-empty = at-empty2 .before in
+    let at-l = at-empty .before .before in
+    let added = rw (c .before .halt-bit .ensures) at (c .add .ensures) in
+    λ E. rw (at-l .l .given .1) (halt-means E (at-l .l .given .0 .0) _ (at-empty .empty .ensures) (at-empty2 .empty2 .ensures) added)
 
 returns-3 : tie.Need-returns-3
 returns-3 c =
-    let l2-given-1 = c .before .before .before .l2 .given .1 in
-    let l2-given-0-0 = c .before .before .before .l2 .given .0 .0 in
-    let number-ensures = c .before .number .ensures in
-    λ E. rw l2-given-1 (emit-means E (l2-given-0-0) (c .add2 .result) (rw number-ensures at (c .add2 .ensures)))
+    let at-signal-bit = c .before .before in
+    let at-empty3 = at-signal-bit .before in
+    let at-l2 = at-empty3 .before .before in
+    let added = rw (at-signal-bit .signal-bit .ensures) at (c .before .add2 .ensures) in
+    λ E. rw (at-l2 .l2 .given .1) (emit-means E (at-l2 .l2 .given .0 .0) _ (at-empty3 .empty3 .ensures) added (c .empty4 .ensures))
 
 returns-4 : tie.Need-returns-4
-returns-4 c = λ E. rw (c .before .l3 .given .1) (exit-means E (c .before .l3 .given .0 .0))
+returns-4 c =
+    let at-l3 = c .before .before .before in
+    λ E. rw (at-l3 .l3 .given .1) (exit-means E (at-l3 .l3 .given .0 .0) (c .before .empty5 .ensures) (c .empty6 .ensures))
 
 pub leaf-spec : {M : Type 1} → statement M
 leaf-spec =
@@ -70,14 +93,19 @@ leaf-spec =
     enum-told
     idle-requires
     enum-known-l
+    empty-requires
+    empty-requires-2
     halt-bit-requires
     add-requires
     enum-known-l-2
-    number-requires
-    cast-add
+    empty-requires-3
+    signal-bit-requires
     add-requires-2
+    empty-requires-4
     enum-known-l-3
-    cast-t11
+    empty-requires-5
+    cast-t15
+    empty-requires-6
     returns
     returns-2
     returns-3

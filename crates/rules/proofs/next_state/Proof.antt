@@ -8,7 +8,7 @@ add-requires : tie.Need-add-requires
 add-requires c κs = search needs
 
 returns : tie.Need-returns
-returns c = next-means (c .before .args .r) (c .add .result) (c .add .ensures)
+returns c = next-means (c .before .before .args .r) (c .add .result) (c .add .ensures)
 
 pub next-state-spec : {M : Type 1} → statement M
 next-state-spec = tie.close (tie.spec add-requires returns)

@@ -1,7 +1,6 @@
 -- Boot decides, and with boot on whether a halt is set.
 use mathlib.Core.Path.{sym, _∙_}
-use borrow.Author.Tests.{not-true, not-false}
-use Rattle.rules.proofs.Resumes.{resume-off, react-resumes, react-starts}
+use Rattle.rules.proofs.Resumes.{inside-off, inside-on, resume-off, react-resumes, react-starts}
 use borrow.Author.Needs.{needs}
 use Rattle.rules.proofs.react.Statement.{statement}
 use Rattle.rules.proofs.react.Tie as tie
@@ -27,14 +26,14 @@ returns c =
     let at-if1 = at-inside .before in
     let at-member = at-if1 .before in
     let at-new = at-member .before in
-    let off = rw (not-true (at-inside .inside .result) (c .before .if2 .taken), at-new .new .ensures) at (at-inside .inside .ensures) in
+    let off = inside-off (at-new .new .ensures) (at-inside .inside .ensures) (c .before .if2 .taken) in
     react-resumes _ _ _ _ (sym (at-member .member .ensures) ∙ at-if1 .if1 .taken) (resume-off _ _ _ _ off (c .idle .ensures))
 
 resume-requires : tie.Need-resume-requires
 resume-requires c κs =
     let at-new = c .before .before .before .before in
     let start = at-new .before .before in
-    let on = rw (not-false (c .before .inside .result) (c .if2 .left), at-new .new .ensures) at (c .before .inside .ensures) in
+    let on = inside-on (at-new .new .ensures) (c .before .inside .ensures) (c .if2 .left) in
     rw (at-new .new .ensures) (start .pre, on)
 
 returns-2 : tie.Need-returns-2

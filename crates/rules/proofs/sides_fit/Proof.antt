@@ -1,6 +1,7 @@
 -- Case by case as `sidesFit` has them.
 use mathlib.Core.Path.{sym, _∙_}
-use Rattle.rules.proofs.Fitting.{parallel-sides, other-sides, left-alone}
+use mathlib.Core.Bool.{and-true}
+use Rattle.rules.proofs.Fitting.{parallel-sides, other-sides}
 use borrow.Author.Needs.{needs}
 use Rattle.rules.proofs.sides_fit.Statement.{statement}
 use Rattle.rules.proofs.sides_fit.Tie as tie
@@ -10,49 +11,56 @@ is-parallel-requires c κs = search needs
 
 returns : tie.Need-returns
 returns c =
-    let is-parallel-ensures = c .before .before .before .is-parallel .ensures in
-    let if1-taken = c .before .before .if1 .taken in
-    let if2-taken = c .before .if2 .taken in
-    let a = c .before .before .before .before .args in
-    rw (parallel-sides (a .b) (a .p) (a .q) (a .ends-p) (a .ends-q) (sym is-parallel-ensures ∙ if1-taken), if2-taken, c .if3 .taken)
+    let at-if1 = c .before .before in
+    let at-is-parallel = at-if1 .before in
+    let start = at-is-parallel .before in
+    let a = start .args in
+    let sides = sym (at-is-parallel .is-parallel .ensures) ∙ at-if1 .if1 .taken in
+    rw (parallel-sides (a .b) (a .p) (a .q) (a .ends-p) (a .ends-q) sides, c .before .if2 .taken, c .if3 .taken)
 
 returns-2 : tie.Need-returns-2
 returns-2 c =
-    let is-parallel-ensures = c .before .before .before .is-parallel .ensures in
-    let if1-taken = c .before .before .if1 .taken in
-    let if2-taken = c .before .if2 .taken in
-    let a = c .before .before .before .before .args in
-    rw (parallel-sides (a .b) (a .p) (a .q) (a .ends-p) (a .ends-q) (sym is-parallel-ensures ∙ if1-taken), if2-taken, c .if3 .left) (left-alone (a .ends-q))
+    let at-if1 = c .before .before in
+    let at-is-parallel = at-if1 .before in
+    let start = at-is-parallel .before in
+    let a = start .args in
+    let sides = sym (at-is-parallel .is-parallel .ensures) ∙ at-if1 .if1 .taken in
+    rw (parallel-sides (a .b) (a .p) (a .q) (a .ends-p) (a .ends-q) sides, c .before .if2 .taken, c .if3 .left)
+    (sym (and-true (a .ends-q)))
 
 returns-3 : tie.Need-returns-3
 returns-3 c =
-    let is-parallel-ensures = c .before .before .before .is-parallel .ensures in
-    let if1-taken = c .before .before .if1 .taken in
-    let if2-left = c .before .if2 .left in
-    let a = c .before .before .before .before .args in
-    rw (parallel-sides (a .b) (a .p) (a .q) (a .ends-p) (a .ends-q) (sym is-parallel-ensures ∙ if1-taken), if2-left, c .if4 .taken)
+    let at-if1 = c .before .before in
+    let at-is-parallel = at-if1 .before in
+    let start = at-is-parallel .before in
+    let a = start .args in
+    let sides = sym (at-is-parallel .is-parallel .ensures) ∙ at-if1 .if1 .taken in
+    rw (parallel-sides (a .b) (a .p) (a .q) (a .ends-p) (a .ends-q) sides, c .before .if2 .left, c .if4 .taken)
 
 returns-4 : tie.Need-returns-4
 returns-4 c =
-    let is-parallel-ensures = c .before .before .before .is-parallel .ensures in
-    let if1-taken = c .before .before .if1 .taken in
-    let if2-left = c .before .if2 .left in
-    let a = c .before .before .before .before .args in
-    rw (parallel-sides (a .b) (a .p) (a .q) (a .ends-p) (a .ends-q) (sym is-parallel-ensures ∙ if1-taken), if2-left, c .if4 .left)
+    let at-if1 = c .before .before in
+    let at-is-parallel = at-if1 .before in
+    let start = at-is-parallel .before in
+    let a = start .args in
+    let sides = sym (at-is-parallel .is-parallel .ensures) ∙ at-if1 .if1 .taken in
+    rw (parallel-sides (a .b) (a .p) (a .q) (a .ends-p) (a .ends-q) sides, c .before .if2 .left, c .if4 .left)
 
 returns-5 : tie.Need-returns-5
 returns-5 c =
-    let is-parallel-ensures = c .before .before .is-parallel .ensures in
-    let if1-left = c .before .if1 .left in
-    let a = c .before .before .before .args in
-    rw (other-sides (a .b) (a .p) (a .q) (a .ends-p) (a .ends-q) (sym is-parallel-ensures ∙ if1-left), c .if5 .taken)
+    let at-is-parallel = c .before .before in
+    let start = at-is-parallel .before in
+    let a = start .args in
+    let sides = sym (at-is-parallel .is-parallel .ensures) ∙ c .before .if1 .left in
+    rw (other-sides (a .b) (a .p) (a .q) (a .ends-p) (a .ends-q) sides, c .if5 .taken)
 
 returns-6 : tie.Need-returns-6
 returns-6 c =
-    let is-parallel-ensures = c .before .before .is-parallel .ensures in
-    let if1-left = c .before .if1 .left in
-    let a = c .before .before .before .args in
-    rw (other-sides (a .b) (a .p) (a .q) (a .ends-p) (a .ends-q) (sym is-parallel-ensures ∙ if1-left), c .if5 .left)
+    let at-is-parallel = c .before .before in
+    let start = at-is-parallel .before in
+    let a = start .args in
+    let sides = sym (at-is-parallel .is-parallel .ensures) ∙ c .before .if1 .left in
+    rw (other-sides (a .b) (a .p) (a .q) (a .ends-p) (a .ends-q) sides, c .if5 .left)
 
 pub sides-fit-spec : {M : Type 1} → statement M
 sides-fit-spec =

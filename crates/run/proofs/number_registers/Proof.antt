@@ -6,20 +6,20 @@ use borrow.Author.Needs.{needs}
 use lib.ListN.{length, length-set}
 use mathlib.Core.List.{[], _∷_}
 use lib.Seq.{length-sets}
-use Rattle.order.specs.Paths.{cellsOf}
-use Rattle.run.specs.React.{operandsOf}
-use Rattle.run.proofs.Column.{inside, at-end, read-cell}
+use Rattle.cells.specs.Words.{cellsOf}
+use Rattle.cells.specs.Values.{operandsOf}
+use Rattle.cells.proofs.Words.{inside, at-end, read-cell}
 use Rattle.run.proofs.Counting.{counted-room}
 use Rattle.run.proofs.Numbering.{Numbering, numbering-none, numbering-next, numbering-all}
 use Rattle.run.proofs.number_registers.Statement.{statement}
 use Rattle.run.proofs.number_registers.Tie as tie
 
 abbrev Inv-loop : tie.InvT-loop
-Inv-loop cells bits₀ operands₀ k₀ i₀ bits operands k i =
-    Numbering (cellsOf cells) bits operands k i × (length bits ≡ length bits₀) × (length operands ≡ length operands₀)
+Inv-loop cells bits₀ operands₀ k₀ i₀ places operands k i =
+    Numbering (cellsOf cells) places operands k i × (length places ≡ length bits₀) × (length operands ≡ length operands₀)
 
 abbrev μ-loop : tie.MeasureT-loop
-μ-loop cells bits₀ operands₀ k₀ i₀ bits operands k i = length cells - i
+μ-loop cells bits₀ operands₀ k₀ i₀ places operands k i = length cells - i
 
 loop-holds : tie.Need-loop-holds Inv-loop μ-loop
 loop-holds c =
@@ -37,18 +37,18 @@ new-requires c κs = search needs
 cell-at-requires : tie.Need-cell-at-requires Inv-loop μ-loop
 cell-at-requires c κs = search needs
 
-cast-bits : tie.Need-cast-bits Inv-loop μ-loop
-cast-bits c =
+cast-places : tie.Need-cast-places Inv-loop μ-loop
+cast-places c =
     let at-loop-test = c .before .before in
     let at-loop = at-loop-test .before in
     let start = at-loop .before .before .before .before in
     omega (arith, start .pre .few, inside (start .args .cells .now) (at-loop-test .loop-test .taken), at-loop .loop .inv .0 .counted .few)
 
-mul-bits : tie.Need-mul-bits Inv-loop μ-loop
-mul-bits c = search needs
+mul-places : tie.Need-mul-places Inv-loop μ-loop
+mul-places c = search needs
 
-slice-write-bits : tie.Need-slice-write-bits Inv-loop μ-loop
-slice-write-bits c =
+slice-write-places : tie.Need-slice-write-places Inv-loop μ-loop
+slice-write-places c =
     let at-loop-test = c .before .before in
     let at-loop = at-loop-test .before in
     let start = at-loop .before .before .before .before in
@@ -88,7 +88,7 @@ loop-again c =
     let cell = read-cell words (loop .i) (at-new .new .ensures) (at-cell-at .cell-at .ensures) in
     let here = inside words (at-loop-test .loop-test .taken) in
     let laid = at-with-operand .with-operand .ensures in
-    let wide = length-set (loop .bits) (loop .i) (loop .k) ∙ loop .inv .1 in
+    let wide = length-set (loop .places) (loop .i) (loop .k) ∙ loop .inv .1 in
     let room = ap length (laid .1) ∙ length-sets (loop .operands) (loop .k) (operandsOf (at-cell-at .cell-at .result ∷ [])) ∙ loop .inv .2 in
     rw (laid .0) (numbering-next (at-cell-at .cell-at .result) (loop .inv .0) here cell (laid .1), wide, room)
 
@@ -113,9 +113,9 @@ number-registers-spec =
     cast-new
     new-requires
     cell-at-requires
-    cast-bits
-    mul-bits
-    slice-write-bits
+    cast-places
+    mul-places
+    slice-write-places
     with-operand-requires
     add-i
     loop-less

@@ -4,19 +4,21 @@ use mathlib.Core.Path.{sym, _∙_, subst}
 use native.Mathlib.Omega.{arith}
 use borrow.Author.Needs.{needs}
 use lib.ListN.{length, getD}
-use Rattle.bits.specs.Bits.{has, signalsIn}
-use Rattle.gates.specs.declared.Cell.{Cell}
-use Rattle.order.specs.Paths.{cellsOf, pinsOf, Among, placed}
-use Rattle.run.proofs.Column.{cells-length, inside, at-end, word-cell}
+use Rattle.bits.specs.Bits.{has, signalsIn, whole}
+use Rattle.cells.specs.declared.Cell.{Cell}
+use Rattle.cells.specs.Words.{cellsOf}
+use Rattle.cells.specs.Needs.{pinsOf, Among}
+use Rattle.order.specs.Paths.{placed}
+use Rattle.cells.proofs.Words.{cells-length, inside, at-end, word-cell}
 use Rattle.run.proofs.Passes.{Settling, settling-none, settling-next, settling-all}
 use Rattle.run.proofs.settle.Statement.{statement}
 use Rattle.run.proofs.settle.Tie as tie
 
 abbrev Inv-loop : tie.InvT-loop
-Inv-loop cells order bits state event values₀ j₀ values j = Settling (signalsIn event) (has state) (cellsOf cells) order values j
+Inv-loop cells order places state event values₀ j₀ values j = Settling (signalsIn (whole event)) (has (whole state)) (cellsOf cells) order values j
 
 abbrev μ-loop : tie.MeasureT-loop
-μ-loop cells order bits state event values₀ j₀ values j = length cells - j
+μ-loop cells order places state event values₀ j₀ values j = length cells - j
 
 loop-holds : tie.Need-loop-holds Inv-loop μ-loop
 loop-holds c =
@@ -62,8 +64,8 @@ mul-value-of c =
     let at-loop = at-loop-test .before in
     let start = at-loop .before .before .before .before .before in
     let here = inside (start .args .cells .now) (at-loop-test .loop-test .taken) in
-    let has-bit : getD (start .args .order .now) (at-loop .loop .j) 0 < length (start .args .bits .now) =
-    omega (arith, start .pre .1 .places, start .pre .0 .ordered .cell (at-loop .loop .j) here) in
+    let has-bit : getD (start .args .order .now) (at-loop .loop .j) 0 < length (start .args .places .now) =
+    omega (arith, start .pre .1 .long, start .pre .0 .ordered .cell (at-loop .loop .j) here) in
     search needs
 
 shared-slice-read-value-of : tie.Need-shared-slice-read-value-of Inv-loop μ-loop
@@ -72,7 +74,7 @@ shared-slice-read-value-of c =
     let at-loop = at-loop-test .before in
     let start = at-loop .before .before .before .before .before in
     let here = inside (start .args .cells .now) (at-loop-test .loop-test .taken) in
-    omega (arith, start .pre .1 .places, start .pre .0 .ordered .cell (at-loop .loop .j) here)
+    omega (arith, start .pre .1 .long, start .pre .0 .ordered .cell (at-loop .loop .j) here)
 
 value-of-requires : tie.Need-value-of-requires Inv-loop μ-loop
 value-of-requires c κs =

@@ -1,6 +1,6 @@
 -- `with_operand` meets its contract: a register's operand goes to its place.
 use mathlib.Core.Path.{refl}
-use Rattle.run.specs.React.{operandsOf}
+use Rattle.cells.specs.Values.{operandsOf}
 use Rattle.run.proofs.Numbering.{not-kept, one-kept}
 use borrow.Author.Needs.{needs}
 use Rattle.run.proofs.with_operand.Statement.{statement}
@@ -17,12 +17,6 @@ enum-told-3 c = search needs
 
 enum-told-4 : tie.Need-enum-told-4
 enum-told-4 c = search needs
-
-enum-told-5 : tie.Need-enum-told-5
-enum-told-5 c = search needs
-
-enum-told-6 : tie.Need-enum-told-6
-enum-told-6 c = search needs
 
 enum-known-c : tie.Need-enum-known-c
 enum-known-c c = search needs
@@ -72,23 +66,11 @@ returns-4 c =
     let start = c .before .before .before in
     not-kept _ _ (start .args .c) (rw (c .enum-told4 .given .1) refl)
 
-returns-5 : tie.Need-returns-5
-unfolding operandsOf
-returns-5 c =
-    let start = c .before .before .before in
-    not-kept _ _ (start .args .c) (rw (c .enum-told5 .given .1) refl)
-
-returns-6 : tie.Need-returns-6
-unfolding operandsOf
-returns-6 c =
-    let start = c .before .before .before in
-    not-kept _ _ (start .args .c) (rw (c .enum-told6 .given .1) refl)
-
 same-length : tie.Need-same-length
 same-length c = search needs
 
-returns-7 : tie.Need-returns-7
-returns-7 c =
+returns-5 : tie.Need-returns-5
+returns-5 c =
     let at-c = c .before .before in
     one-kept _ _ (at-c .c .given .1) (c .number .ensures)
 
@@ -100,8 +82,6 @@ with-operand-spec =
     enum-told-2
     enum-told-3
     enum-told-4
-    enum-told-5
-    enum-told-6
     enum-known-c
     number-requires
     mul-operands
@@ -111,7 +91,5 @@ with-operand-spec =
     returns-2
     returns-3
     returns-4
-    returns-5
-    returns-6
     same-length
-    returns-7)
+    returns-5)

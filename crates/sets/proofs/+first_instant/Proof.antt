@@ -89,7 +89,7 @@ first-instant-returns t c =
     λ s kept.
     let next : the-first .result ≡ further (entry .args .n) 1 = the-first .ensures in
     let head = head-is (the-row-at .ensures) (the-head .given .1) in
-    instant-here (entry .args .sets .now) s kept head (rw next at (the-sets-of .ensures)) (the-runs-on .ensures) (the-if1 .taken)
+    instant-here (entry .args .statics .now) s kept head (rw next at (the-sets-of .ensures)) (the-runs-on .ensures) (the-if1 .taken)
 
 first-instant-first-instant-requires : (t : ℕ) → first-instant-lts.Need-first-instant-requires (calls t) (first-instant-at t) first-instant.Post
 first-instant-first-instant-requires t c κs =
@@ -153,7 +153,7 @@ first-instant-returns-2 t c =
     let entry = c .before .before .before .before .before .before in
     let the-row-at = c .before .before .before .row-at in
     let the-enum-told = c .enum-told in
-    λ s kept. instant-none (entry .args .sets .now) s kept (head-is (the-row-at .ensures) (the-enum-told .given .1))
+    λ s kept. instant-none (entry .args .statics .now) s kept (head-is (the-row-at .ensures) (the-enum-told .given .1))
 
 first-instant-returns-3 : (t : ℕ) → first-instant-lts.Need-returns-3 (calls t) (first-instant-at t) first-instant.Post
 first-instant-returns-3 t c =
@@ -168,7 +168,7 @@ first-instant-returns-3 t c =
     λ s kept.
     let next : the-first .result ≡ further (entry .args .n) 1 = the-first .ensures in
     let head = head-is (the-row-at .ensures) (the-head .given .1) in
-    instant-on (entry .args .sets .now) s kept head (rw next at (the-sets-of .ensures)) (the-runs-on .ensures) (the-if1 .left)
+    instant-on (entry .args .statics .now) s kept head (rw next at (the-sets-of .ensures)) (the-runs-on .ensures) (the-if1 .left)
     (rw next at (the-first-instant .ensures))
 
 first-instant-returns-4 : (t : ℕ) → first-instant-lts.Need-returns-4 (calls t) (first-instant-at t) first-instant.Post
@@ -182,7 +182,7 @@ first-instant-returns-4 t c =
     λ s kept.
     let next : the-first .result ≡ further (entry .args .n) 1 = the-first .ensures in
     let head = head-is (the-row-at .ensures) (the-enum-told2 .given .1) in
-    instant-left (entry .args .sets .now) s kept head (rw next at (the-first-instant2 .ensures)) (the-m .given .1)
+    instant-left (entry .args .statics .now) s kept head (rw next at (the-first-instant2 .ensures)) (the-m .given .1)
 
 first-instant-returns-5 : (t : ℕ) → first-instant-lts.Need-returns-5 (calls t) (first-instant-at t) first-instant.Post
 first-instant-returns-5 t c =
@@ -199,7 +199,7 @@ first-instant-returns-5 t c =
     let head = head-is (the-row-at .ensures) (the-enum-told2 .given .1) in
     let end : the-row-at2 .result .end ≡ rowAt (entry .args .rows .now) (further (entry .args .n) 1) .end =
     end-is (entry .args .rows .now) (the-row-at2 .ensures) next in
-    instant-right (entry .args .sets .now) s kept head (rw next at (the-first-instant2 .ensures)) (the-enum-told3 .given .1)
+    instant-right (entry .args .statics .now) s kept head (rw next at (the-first-instant2 .ensures)) (the-enum-told3 .given .1)
     (rw end at (the-first-instant3 .ensures))
 
 pub +first-instant-spec : {M : Type 1} → statement M

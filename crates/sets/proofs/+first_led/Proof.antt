@@ -5,12 +5,12 @@ use native.Mathlib.Omega.{arith}
 use borrow.Author.Needs.{needs}
 use lib.ListN.{length}
 use Rattle.number.specs.Counts.{ofStmt}
+use Rattle.limits.specs.Limits.{maxCodes}
 use Rattle.sheet.specs.Read.{further}
 use Rattle.sheet.specs.Rows.{rowAt}
 use Rattle.sets.proofs.Standing.{head-is, end-is, stands-within, stands-number, stands-one, stands-two, second-later}
 use mathlib.Core.Bool.{_&&_}
 use Rattle.bits.specs.Bits.{has}
-use Rattle.sets.specs.Words.{codeCount}
 use Rattle.sets.specs.Leads.{meet, isX}
 use Rattle.sets.proofs.Searching.{led-here, led-none, led-one, led-left, led-right}
 use Prim.Native.Nat.{ℕ, _<_}
@@ -78,8 +78,8 @@ first-led-returns t c =
     let entry = c .before .before .before .before .before .before in
     let the-if1 = c .if1 in
     λ s kept.
-    let test = the-is-led .ensures ∙ (λ i. isX (the-row-at .ensures i .head) && meet codeCount (has (the-sets-of .result .r)) (has (entry .args .f))) in
-    led-here (entry .args .sets .now) s kept (has (entry .args .f)) (the-sets-of .ensures) test (the-if1 .taken)
+    let test = the-is-led .ensures ∙ (λ i. isX (the-row-at .ensures i .head) && meet maxCodes (has (the-sets-of .result .r)) (has (entry .args .f))) in
+    led-here (entry .args .statics .now) s kept (has (entry .args .f)) (the-sets-of .ensures) test (the-if1 .taken)
 
 first-led-first-part-requires : (t : ℕ) → first-led-lts.Need-first-part-requires (calls t) (first-led-at t) first-led.Post
 first-led-first-part-requires t c κs = stands-number (c .before .before .before .before .before .before .pre .1 .0)
@@ -191,8 +191,8 @@ first-led-returns-2 t c =
     let entry = c .before .before .before .before .before .before .before .before .before in
     let the-enum-told = c .enum-told in
     λ s kept.
-    let test = the-is-led .ensures ∙ (λ i. isX (the-row-at .ensures i .head) && meet codeCount (has (the-sets-of .result .r)) (has (entry .args .f))) in
-    led-none (entry .args .sets .now) s kept (has (entry .args .f)) (the-sets-of .ensures) test (head-is (the-row-at .ensures) (the-enum-told .given .1))
+    let test = the-is-led .ensures ∙ (λ i. isX (the-row-at .ensures i .head) && meet maxCodes (has (the-sets-of .result .r)) (has (entry .args .f))) in
+    led-none (entry .args .statics .now) s kept (has (entry .args .f)) (the-sets-of .ensures) test (head-is (the-row-at .ensures) (the-enum-told .given .1))
 
 first-led-returns-3 : (t : ℕ) → first-led-lts.Need-returns-3 (calls t) (first-led-at t) first-led.Post
 first-led-returns-3 t c =
@@ -208,8 +208,8 @@ first-led-returns-3 t c =
     λ s kept.
     let next : the-first .result ≡ further (entry .args .n) 1 = the-first .ensures in
     let head = head-is (the-row-at .ensures) (the-head .given .1) in
-    let test = the-is-led .ensures ∙ (λ i. isX (the-row-at .ensures i .head) && meet codeCount (has (the-sets-of .result .r)) (has (entry .args .f))) in
-    led-one (entry .args .sets .now) s kept (has (entry .args .f)) (the-sets-of .ensures) test (the-if1 .left) head (the-leads-one .ensures)
+    let test = the-is-led .ensures ∙ (λ i. isX (the-row-at .ensures i .head) && meet maxCodes (has (the-sets-of .result .r)) (has (entry .args .f))) in
+    led-one (entry .args .statics .now) s kept (has (entry .args .f)) (the-sets-of .ensures) test (the-if1 .left) head (the-leads-one .ensures)
     (rw next at (the-first-led .ensures))
 
 first-led-returns-4 : (t : ℕ) → first-led-lts.Need-returns-4 (calls t) (first-led-at t) first-led.Post
@@ -231,8 +231,8 @@ first-led-returns-4 t c =
     let head = head-is (the-row-at .ensures) (the-head2 .given .1) in
     let end : the-row-at2 .result .end ≡ rowAt (entry .args .rows .now) (further (entry .args .n) 1) .end =
     end-is (entry .args .rows .now) (the-row-at2 .ensures) next in
-    let test = the-is-led .ensures ∙ (λ i. isX (the-row-at .ensures i .head) && meet codeCount (has (the-sets-of .result .r)) (has (entry .args .f))) in
-    led-left (entry .args .sets .now) s kept (has (entry .args .f)) (the-sets-of .ensures) test (the-if1 .left) head (rw end at (the-sets-of2 .ensures))
+    let test = the-is-led .ensures ∙ (λ i. isX (the-row-at .ensures i .head) && meet maxCodes (has (the-sets-of .result .r)) (has (entry .args .f))) in
+    led-left (entry .args .statics .now) s kept (has (entry .args .f)) (the-sets-of .ensures) test (the-if1 .left) head (rw end at (the-sets-of2 .ensures))
     (the-leads-left .ensures) (rw next at (the-first-led2 .ensures)) (the-m .given .1)
 
 first-led-returns-5 : (t : ℕ) → first-led-lts.Need-returns-5 (calls t) (first-led-at t) first-led.Post
@@ -257,8 +257,8 @@ first-led-returns-5 t c =
     let head = head-is (the-row-at .ensures) (the-head2 .given .1) in
     let end : the-row-at2 .result .end ≡ rowAt (entry .args .rows .now) (further (entry .args .n) 1) .end =
     end-is (entry .args .rows .now) (the-row-at2 .ensures) next in
-    let test = the-is-led .ensures ∙ (λ i. isX (the-row-at .ensures i .head) && meet codeCount (has (the-sets-of .result .r)) (has (entry .args .f))) in
-    led-right (entry .args .sets .now) s kept (has (entry .args .f)) (the-sets-of .ensures) test (the-if1 .left) head (rw end at (the-sets-of2 .ensures))
+    let test = the-is-led .ensures ∙ (λ i. isX (the-row-at .ensures i .head) && meet maxCodes (has (the-sets-of .result .r)) (has (entry .args .f))) in
+    led-right (entry .args .statics .now) s kept (has (entry .args .f)) (the-sets-of .ensures) test (the-if1 .left) head (rw end at (the-sets-of2 .ensures))
     (the-leads-left .ensures) (rw next at (the-first-led2 .ensures)) (the-enum-told2 .given .1)
     (rw next at (the-sets-of3 .ensures)) (the-leads-right .ensures) (rw end at (the-first-led3 .ensures))
 

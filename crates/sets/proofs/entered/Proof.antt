@@ -10,17 +10,17 @@ number-requires c κs = search needs
 cast-i : tie.Need-cast-i
 cast-i c = search needs
 
-mul-sets : tie.Need-mul-sets
-mul-sets c = search needs
+mul-statics : tie.Need-mul-statics
+mul-statics c = search needs
 
-add-sets : tie.Need-add-sets
-add-sets c = search needs
+add-statics : tie.Need-add-statics
+add-statics c = search needs
 
-mul-sets-2 : tie.Need-mul-sets-2
-mul-sets-2 c = search needs
+mul-statics-2 : tie.Need-mul-statics-2
+mul-statics-2 c = search needs
 
-slice-write-sets : tie.Need-slice-write-sets
-slice-write-sets c = search needs
+slice-write-statics : tie.Need-slice-write-statics
+slice-write-statics c = search needs
 
 same-length : tie.Need-same-length
 same-length c = search needs
@@ -34,9 +34,9 @@ entered-spec =
     (tie.spec
     number-requires
     cast-i
-    mul-sets
-    add-sets
-    mul-sets-2
-    slice-write-sets
+    mul-statics
+    add-statics
+    mul-statics-2
+    slice-write-statics
     same-length
     returns)

@@ -10,7 +10,7 @@ first-led-requires c κs = search needs
 returns : tie.Need-returns
 returns c =
     let entry = c .before .before .before in
-    led-empty (entry .args .rows .now) (entry .args .sets .now) (entry .args .n) (c .first-led .result) (c .first-led .ensures)
+    led-empty (entry .args .rows .now) (entry .args .statics .now) (entry .args .n) (c .first-led .result) (c .first-led .ensures)
 
 pub first-twice-spec : {M : Type 1} → statement M
 first-twice-spec = tie.close (tie.spec first-led-requires returns)

@@ -1,5 +1,6 @@
--- `is_led` meets its contract: R is below 2 ^ 10.
+-- `is_led` meets its contract: R is below 2 ^ maxCodes.
 use mathlib.Core.Path.{sym, _∙_}
+use Rattle.limits.specs.Limits.{maxCodes}
 use borrow.Author.Needs.{needs}
 use Rattle.sets.proofs.is_led.Statement.{statement}
 use Rattle.sets.proofs.is_led.Tie as tie
@@ -11,7 +12,7 @@ meets-requires : tie.Need-meets-requires
 meets-requires c κs = search needs
 
 returns : tie.Need-returns
-returns c = rw (sym (c .before .before .is-x .ensures) ∙ c .before .if1 .taken) (c .meets .ensures 10 (c .before .before .before .pre))
+returns c = rw (sym (c .before .before .is-x .ensures) ∙ c .before .if1 .taken) (c .meets .ensures maxCodes (c .before .before .before .pre))
 
 returns-2 : tie.Need-returns-2
 returns-2 c = search needs

@@ -1,6 +1,7 @@
 -- `leads_parallel` meets its contract: the codes of f from the other side's on, those up to a common one, and f where the other may stand ended.
 use Rattle.sets.proofs.Leading.{parallel-leads}
 use Rattle.bits.specs.Bits.{has}
+use Rattle.limits.specs.Limits.{maxCodes}
 use borrow.Author.Needs.{needs}
 use Rattle.sets.proofs.leads_parallel.Statement.{statement}
 use Rattle.sets.proofs.leads_parallel.Tie as tie
@@ -26,7 +27,7 @@ join-requires-2 c κs = search needs
 returns : tie.Need-returns
 returns c =
     let entry = c .before .before .before .before .before .before in
-    let common = c .before .before .before .before .up-to-common .ensures 10 (entry .pre) .codes in
+    let common = c .before .before .before .before .up-to-common .ensures maxCodes (entry .pre) .codes in
     parallel-leads (has (entry .args .q .r)) (has (entry .args .f)) (c .before .before .before .before .before .at-least .ensures .0) common
     (c .before .before .before .join .ensures) (c .before .before .ends .ensures) (c .before .only-if .ensures) (c .join2 .ensures)
 

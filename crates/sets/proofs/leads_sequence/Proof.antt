@@ -1,7 +1,8 @@
--- `leads_sequence` meets its contract: K is below 2 ^ 10, and 0 leads to f just where K meets it.
+-- `leads_sequence` meets its contract: K is below 2 ^ maxCodes, and 0 leads to f just where K meets it.
 use mathlib.Core.Path.{sym, _∙_}
 use Rattle.bits.specs.Bits.{has}
 use Rattle.sets.proofs.Leading.{sequence-led, sequence-not}
+use Rattle.limits.specs.Limits.{maxCodes}
 use borrow.Author.Needs.{needs}
 use Rattle.sets.proofs.leads_sequence.Statement.{statement}
 use Rattle.sets.proofs.leads_sequence.Tie as tie
@@ -15,7 +16,7 @@ with-0-requires c κs = search needs
 returns : tie.Need-returns
 returns c =
     let entry = c .before .before .before in
-    c .with-0 .ensures ∙ sequence-led (has (entry .args .k)) (has (entry .args .f)) (sym (c .before .before .meets .ensures 10 (entry .pre)) ∙ c .before .if1 .taken)
+    c .with-0 .ensures ∙ sequence-led (has (entry .args .k)) (has (entry .args .f)) (sym (c .before .before .meets .ensures maxCodes (entry .pre)) ∙ c .before .if1 .taken)
 
 without-0-requires : tie.Need-without-0-requires
 without-0-requires c κs = search needs
@@ -23,7 +24,7 @@ without-0-requires c κs = search needs
 returns-2 : tie.Need-returns-2
 returns-2 c =
     let entry = c .before .before .before in
-    c .without-0 .ensures ∙ sequence-not (has (entry .args .k)) (has (entry .args .f)) (sym (c .before .before .meets .ensures 10 (entry .pre)) ∙ c .before .if1 .left)
+    c .without-0 .ensures ∙ sequence-not (has (entry .args .k)) (has (entry .args .f)) (sym (c .before .before .meets .ensures maxCodes (entry .pre)) ∙ c .before .if1 .left)
 
 pub leads-sequence-spec : {M : Type 1} → statement M
 leads-sequence-spec =

@@ -16,6 +16,9 @@ mul-result-2 c = search needs
 add-result-2 : tie.Need-add-result-2
 add-result-2 c = search needs
 
+rem-result : tie.Need-rem-result
+rem-result c = search needs
+
 mul-result-3 : tie.Need-mul-result-3
 mul-result-3 c = search needs
 
@@ -28,4 +31,4 @@ returns c = trap-leads (c .args .f)
 pub leads-trap-spec : {M : Type 1} → statement M
 leads-trap-spec =
     tie.close
-    (tie.spec mul-result add-result mul-result-2 add-result-2 mul-result-3 add-result-3 returns)
+    (tie.spec mul-result add-result mul-result-2 add-result-2 rem-result mul-result-3 add-result-3 returns)

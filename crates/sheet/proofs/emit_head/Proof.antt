@@ -24,8 +24,11 @@ refused-requires c κs = search needs
 returns : tie.Need-returns
 unfolding emitting pick
 returns c =
-    let signal = sym (c .before .before .before .before .before .before .read-signal .ensures) ∙ c .before .before .before .before .x .given .1 in
-    c .refused .ensures ∙ simp (signal, sym (c .before .before .tick-or-input .ensures) ∙ c .before .if1 .taken)
+    let at-tick-or-input = c .before .before in
+    let at-x = at-tick-or-input .before .before in
+    let at-read-signal = at-x .before .before in
+    let signal = sym (at-read-signal .read-signal .ensures) ∙ at-x .x .given .1 in
+    c .refused .ensures ∙ simp (signal, sym (at-tick-or-input .tick-or-input .ensures) ∙ c .before .if1 .taken)
 
 returns-2 : tie.Need-returns-2
 unfolding emitting
@@ -36,7 +39,9 @@ returns-2 c =
 returns-3 : tie.Need-returns-3
 unfolding emitting pick
 returns-3 c =
-    let signal = sym (c .before .before .before .before .before .read-signal .ensures) ∙ c .before .before .before .x .given .1 in
+    let at-x = c .before .before .before in
+    let at-read-signal = at-x .before .before in
+    let signal = sym (at-read-signal .read-signal .ensures) ∙ at-x .x .given .1 in
     simp (signal, sym (c .before .tick-or-input .ensures) ∙ c .if1 .left)
 
 pub emit-head-spec : {M : Type 1} → statement M

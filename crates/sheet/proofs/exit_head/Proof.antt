@@ -1,11 +1,9 @@
 -- The number at the marks decides: none, then its fault; one below 2 or over 1 + d, then EXIT; else the level.
-use Prim.Native.Nat.{_%_}
 use native.Mathlib.Omega.{arith}
-use mathlib.Core.Path.{_≡_, sym, _∙_}
-use Rattle.number.proofs.Laws.{value-small}
+use mathlib.Core.Path.{sym, _∙_}
 use Rattle.number.specs.Number.{pick}
 use Rattle.sheet.specs.Read.{exiting}
-use Rattle.sheet.proofs.Reading.{pick-either}
+use Rattle.sheet.proofs.Reading.{pick-either, level-small}
 use borrow.Author.Needs.{needs}
 use Rattle.sheet.proofs.exit_head.Statement.{statement}
 use Rattle.sheet.proofs.exit_head.Tie as tie
@@ -37,13 +35,19 @@ refused-requires c κs = search needs
 returns-2 : tie.Need-returns-2
 unfolding exiting pick
 returns-2 c =
-    let at-r = c .before .before .before .before in
+    let at-no-level = c .before .before in
+    let at-r = at-no-level .before .before in
     let at-read-number = at-r .before .before in
     let number = sym (at-read-number .read-number .ensures) ∙ at-r .r .given .1 in
-    c .refused .ensures ∙ simp (number, pick-either, sym (c .before .before .no-level .ensures) ∙ c .before .if1 .taken)
+    c .refused .ensures ∙ simp (number, pick-either, sym (at-no-level .no-level .ensures) ∙ c .before .if1 .taken)
 
-cast-t12 : tie.Need-cast-t12
-cast-t12 c = search needs
+-- it is at most 1 + d, so that it is not cut
+cast-t11 : tie.Need-cast-t11
+cast-t11 c =
+    let at-r = c .before .before .before in
+    let at-start = at-r .before .before .before .before in
+    let level = level-small (at-r .r .given .0 .0) (at-start .args .e .traps) (sym (c .before .no-level .ensures) ∙ c .if1 .left) in
+    omega (arith, level, at-start .pre)
 
 past-requires : tie.Need-past-requires
 past-requires c κs = search needs
@@ -51,12 +55,11 @@ past-requires c κs = search needs
 returns-3 : tie.Need-returns-3
 unfolding exiting pick
 returns-3 c =
-    let at-r = c .before .before .before .before in
+    let at-no-level = c .before .before in
+    let at-r = at-no-level .before .before in
     let at-read-number = at-r .before .before in
     let number = sym (at-read-number .read-number .ensures) ∙ at-r .r .given .1 in
-    let k = at-r .r .given .0 .0 in
-    let whole : k % 65536 ≡ k = omega (arith, value-small _ _ number) in
-    simp (number, pick-either, sym (c .before .before .no-level .ensures) ∙ c .before .if1 .left, c .past .ensures, whole)
+    simp (number, pick-either, sym (at-no-level .no-level .ensures) ∙ c .before .if1 .left, c .past .ensures)
 
 pub exit-head-spec : {M : Type 1} → statement M
 exit-head-spec =
@@ -70,6 +73,6 @@ exit-head-spec =
     no-level-requires
     refused-requires
     returns-2
-    cast-t12
+    cast-t11
     past-requires
     returns-3)

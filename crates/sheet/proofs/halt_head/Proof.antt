@@ -1,9 +1,10 @@
--- COUNT from 63 halts on; below that the halt takes the next number.
+-- COUNT past the last halt; before that the halt takes the next number.
 use mathlib.Core.Path.{sym, _∙_}
 use native.Mathlib.Omega.{arith}
 use borrow.Author.Tests.{leb-false}
 use Rattle.number.specs.Counts.{ofHalt}
 use Rattle.number.specs.Number.{pick}
+use Rattle.limits.specs.Limits.{maxHalts}
 use Rattle.sheet.specs.Read.{haltAt}
 use borrow.Author.Needs.{needs}
 use Rattle.sheet.proofs.halt_head.Statement.{statement}
@@ -24,8 +25,10 @@ number-requires c κs = search needs
 
 add-new : tie.Need-add-new
 add-new c =
-    let taken = ofHalt (c .before .before .before .before .before .args .m .halts) in
-    let few = leb-false 63 taken (sym (c .before .before .halts-full .ensures) ∙ c .before .if1 .left) in
+    let at-halts-full = c .before .before in
+    let at-start = at-halts-full .before .before .before in
+    let taken = ofHalt (at-start .args .m .halts) in
+    let few = leb-false maxHalts taken (sym (at-halts-full .halts-full .ensures) ∙ c .before .if1 .left) in
     rw (c .number .ensures) (omega (arith, few))
 
 new-requires : tie.Need-new-requires
@@ -34,7 +37,9 @@ new-requires c κs = search needs
 returns-2 : tie.Need-returns-2
 unfolding haltAt pick
 returns-2 c =
-    simp (sym (c .before .before .before .halts-full .ensures) ∙ c .before .before .if1 .left, c .new .ensures, c .before .number .ensures)
+    let at-if1 = c .before .before in
+    let at-halts-full = at-if1 .before in
+    simp (sym (at-halts-full .halts-full .ensures) ∙ at-if1 .if1 .left, c .new .ensures, c .before .number .ensures)
 
 pub halt-head-spec : {M : Type 1} → statement M
 halt-head-spec =

@@ -1,10 +1,8 @@
 -- Each arm is the case of `ofKind` with its kind, and the last one is what is left: over 10.
-use Rattle.sheet.specs.Answer.{around}
-use mathlib.Core.Path.{sym, _∙_}
-use Rattle.sheet.proofs.Reading.{over-ten}
 use mathlib.Core.Path.{sym, _∙_}
 use Rattle.number.specs.Number.{pick}
 use Rattle.sheet.specs.Read.{ofKind}
+use Rattle.sheet.proofs.Reading.{over-ten}
 use borrow.Author.Needs.{needs}
 use Rattle.sheet.proofs.head_of_kind.Statement.{statement}
 use Rattle.sheet.proofs.head_of_kind.Tie as tie
@@ -79,8 +77,7 @@ returns-11 c = c .local-head .ensures ∙ simp (c .before .match .keys11)
 
 returns-12 : tie.Need-returns-12
 returns-12 c =
-    let a = c .before .before .before .args in
-    c .refused .ensures ∙ sym (over-ten (a .s .now) (around (a .e)) (a .place) (a .m) (a .k) (c .before .match .rest))
+    c .refused .ensures ∙ sym (over-ten _ _ _ _ _ (c .before .match .rest))
 
 pub head-of-kind-spec : {M : Type 1} → statement M
 head-of-kind-spec =

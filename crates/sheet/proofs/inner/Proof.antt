@@ -1,4 +1,4 @@
--- A loop and a watching leave what holds; a trap adds one; a signal statement adds its local, by what `bits::add` ensures.
+-- A loop and a watching leave what holds; a trap adds one; a signal statement adds its local, by what `add` ensures.
 use Rattle.sheet.proofs.Reading.{inside-signal}
 use Rattle.sheet.specs.Read.{inside}
 use native.Mathlib.Omega.{arith}
@@ -16,22 +16,21 @@ enum-told-2 c = search needs
 enum-told-3 : tie.Need-enum-told-3
 enum-told-3 c = search needs
 
-add-t5 : tie.Need-add-t5
-add-t5 c = search needs
+add-t6 : tie.Need-add-t6
+add-t6 c = search needs
 
 enum-known-u : tie.Need-enum-known-u
 enum-known-u c = search needs
 
-number-requires : tie.Need-number-requires
-number-requires c κs = search needs
-
-cast-add : tie.Need-cast-add
-cast-add c = search needs
+signal-bit-requires : tie.Need-signal-bit-requires
+signal-bit-requires c κs = search needs
 
 add-requires : tie.Need-add-requires
 add-requires c κs =
-    let local = rw (c .before .before .u .given .1) at (c .before .before .before .before .pre .1) in
-    rw (c .number .ensures) local
+    let at-u = c .before .before in
+    let at-start = at-u .before .before .before in
+    let local = rw (at-u .u .given .1) at (at-start .pre .1) in
+    rw (c .signal-bit .ensures) (omega (arith, local))
 
 returns : tie.Need-returns
 unfolding inside
@@ -47,9 +46,11 @@ returns-3 c = rw (c .before .enum-told3 .given .1) (refl, omega arith)
 
 returns-4 : tie.Need-returns-4
 returns-4 c =
-    let scope = rw (c .before .number .ensures) at (c .add .ensures) in
-    rw (c .before .before .before .u .given .1)
-    (inside-signal (c .before .before .before .before .before .args .e) (c .before .before .before .u .given .0 .0) (c .add .result) scope, omega arith)
+    let at-u = c .before .before .before in
+    let at-start = at-u .before .before .before in
+    let local = at-u .u .given in
+    let scope = rw (c .before .signal-bit .ensures) at (c .add .ensures) in
+    rw (local .1) (inside-signal (at-start .args .e) (local .0 .0) (c .add .result) scope, omega arith)
 
 pub inner-spec : {M : Type 1} → statement M
 inner-spec =
@@ -58,10 +59,9 @@ inner-spec =
     enum-told
     enum-told-2
     enum-told-3
-    add-t5
+    add-t6
     enum-known-u
-    number-requires
-    cast-add
+    signal-bit-requires
     add-requires
     returns
     returns-2

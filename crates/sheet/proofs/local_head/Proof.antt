@@ -1,9 +1,10 @@
--- COUNT from 64 signals on; below that the local takes the next number.
+-- COUNT past the last signal; before that the local takes the next number.
 use mathlib.Core.Path.{sym, _∙_}
 use native.Mathlib.Omega.{arith}
 use borrow.Author.Tests.{leb-false}
 use Rattle.number.specs.Counts.{ofSignal}
 use Rattle.number.specs.Number.{pick}
+use Rattle.limits.specs.Limits.{maxSignals}
 use Rattle.sheet.specs.Read.{localAt}
 use borrow.Author.Needs.{needs}
 use Rattle.sheet.proofs.local_head.Statement.{statement}
@@ -24,8 +25,10 @@ number-requires c κs = search needs
 
 add-new : tie.Need-add-new
 add-new c =
-    let taken = ofSignal (c .before .before .before .before .before .args .m .signals) in
-    let few = leb-false 64 taken (sym (c .before .before .signals-full .ensures) ∙ c .before .if1 .left) in
+    let at-signals-full = c .before .before in
+    let at-start = at-signals-full .before .before .before in
+    let taken = ofSignal (at-start .args .m .signals) in
+    let few = leb-false maxSignals taken (sym (at-signals-full .signals-full .ensures) ∙ c .before .if1 .left) in
     rw (c .number .ensures) (omega (arith, few))
 
 new-requires : tie.Need-new-requires
@@ -34,7 +37,9 @@ new-requires c κs = search needs
 returns-2 : tie.Need-returns-2
 unfolding localAt pick
 returns-2 c =
-    simp (sym (c .before .before .before .signals-full .ensures) ∙ c .before .before .if1 .left, c .new .ensures, c .before .number .ensures)
+    let at-if1 = c .before .before in
+    let at-signals-full = at-if1 .before in
+    simp (sym (at-signals-full .signals-full .ensures) ∙ at-if1 .if1 .left, c .new .ensures, c .before .number .ensures)
 
 pub local-head-spec : {M : Type 1} → statement M
 local-head-spec =

@@ -61,10 +61,13 @@ add-result-4 c = search needs
 returns : tie.Need-returns
 unfolding packed
 returns c =
+    let at-operand-no = c .before .before in
+    let at-number = at-operand-no .before in
+    let at-kind-no = at-number .before in
     simp (
-      c .before .before .before .before .kind-no .ensures .0,
-      c .before .before .before .number .ensures,
-      c .before .before .operand-no .ensures,
+      at-kind-no .kind-no .ensures .0,
+      at-number .number .ensures,
+      at-operand-no .operand-no .ensures,
       c .before .number2 .ensures,
       c .number3 .ensures,
     )

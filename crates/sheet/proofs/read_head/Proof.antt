@@ -32,7 +32,9 @@ head-of-kind-requires c κs = search needs
 returns-2 : tie.Need-returns-2
 unfolding headOfKind
 returns-2 c =
-    let number = sym (c .before .before .before .before .before .read-number .ensures) ∙ c .before .before .before .r .given .1 in
+    let at-r = c .before .before .before in
+    let at-read-number = at-r .before .before in
+    let number = sym (at-read-number .read-number .ensures) ∙ at-r .r .given .1 in
     c .head-of-kind .ensures ∙ simp (number, c .before .past .ensures)
 
 pub read-head-spec : {M : Type 1} → statement M

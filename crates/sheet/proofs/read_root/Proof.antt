@@ -1,4 +1,5 @@
--- The root is read with tick, the inputs and the outputs in scope, by what `bits::below` ensures; each way out answers what its law in `Answers` says.
+-- The root is read with tick, the inputs and the outputs in scope, by what `below` ensures; each way out answers what its law in
+-- `Answers` says.
 use Rattle.sheet.proofs.Reading.{at-root}
 use Rattle.sheet.proofs.Answers as answers
 use borrow.Author.Needs.{needs}
@@ -23,6 +24,9 @@ new-requires c κs = search needs
 new-requires-2 : tie.Need-new-requires-2
 new-requires-2 c κs = search needs
 
+cast-read-stmt : tie.Need-cast-read-stmt
+cast-read-stmt c = search needs
+
 new-requires-3 : tie.Need-new-requires-3
 new-requires-3 c κs = search needs
 
@@ -40,14 +44,16 @@ same-length c = search needs
 
 returns : tie.Need-returns
 returns c =
-    let after-root = c .before .before .before .before .before .before in
-    let a = after-root .before .before .before .before .before .before .before .before .args in
-    let scope = at-root (a .i) (a .o) (after-root .before .before .before .before .before .below .result)
-    (after-root .before .before .before .before .before .below .ensures) in
-    let root = rw
-    (scope, after-root .before .before .before .before .new .ensures, after-root .before .before .before .new2 .ensures, after-root .before .new3 .ensures)
-    at (after-root .read-stmt .ensures) in
-    answers.root-extra (a .s .now) (a .i) (a .o) (a .at) root (c .before .before .end .given .1) (c .if1 .taken)
+    let at-end = c .before .before in
+    let at-read-stmt = at-end .before .before .before .before in
+    let at-new3 = at-read-stmt .before in
+    let at-new2 = at-new3 .before .before in
+    let at-new = at-new2 .before in
+    let at-below = at-new .before in
+    let at-start = at-below .before .before .before in
+    let scope = at-root (at-start .args .i) (at-start .args .o) (at-below .below .result) (at-below .below .ensures) in
+    let root = rw (scope, at-new .new .ensures, at-new2 .new2 .ensures, at-new3 .new3 .ensures) at (at-read-stmt .read-stmt .ensures) in
+    answers.root-extra _ _ _ _ root (at-end .end .given .1) (c .if1 .taken)
 
 number-requires : tie.Need-number-requires
 number-requires c κs = search needs
@@ -63,30 +69,35 @@ same-length-2 c = search needs
 
 returns-2 : tie.Need-returns-2
 returns-2 c =
-    let after-root = c .before .before .before .before .before in
-    let a = after-root .before .before .before .before .before .before .before .before .args in
-    let scope = at-root (a .i) (a .o) (after-root .before .before .before .before .before .below .result)
-    (after-root .before .before .before .before .before .below .ensures) in
-    let root = rw
-    (scope, after-root .before .before .before .before .new .ensures, after-root .before .before .before .new2 .ensures, after-root .before .new3 .ensures)
-    at (after-root .read-stmt .ensures) in
-    answers.root-stop (a .s .now) (a .i) (a .o) (a .at) root (c .before .f .given .1)
+    let at-read-stmt = c .before .before .before .before .before in
+    let at-new3 = at-read-stmt .before in
+    let at-new2 = at-new3 .before .before in
+    let at-new = at-new2 .before in
+    let at-below = at-new .before in
+    let at-start = at-below .before .before .before in
+    let scope = at-root (at-start .args .i) (at-start .args .o) (at-below .below .result) (at-below .below .ensures) in
+    let root = rw (scope, at-new .new .ensures, at-new2 .new2 .ensures, at-new3 .new3 .ensures) at (at-read-stmt .read-stmt .ensures) in
+    answers.root-stop _ _ _ _ root (c .before .f .given .1)
 
 same-length-3 : tie.Need-same-length-3
 same-length-3 c = search needs
 
 returns-3 : tie.Need-returns-3
 returns-3 c =
-    let after-root = c .before .before .before .before .before .before .before .before .before .before .before in
-    let a = after-root .before .before .before .before .before .before .before .before .args in
-    let scope = at-root (a .i) (a .o) (after-root .before .before .before .before .before .below .result)
-    (after-root .before .before .before .before .before .below .ensures) in
-    let root = rw
-    (scope, after-root .before .before .before .before .new .ensures, after-root .before .before .before .new2 .ensures, after-root .before .new3 .ensures)
-    at (after-root .read-stmt .ensures) in
-    let read = answers.root-read (a .s .now) (a .i) (a .o) (a .at) root (c .before .before .before .before .before .before .before .end .given .1)
-    (c .before .before .before .before .before .if1 .left) in
-    rw (c .before .before .number .ensures, c .before .number2 .ensures, c .number3 .ensures) read
+    let at-number = c .before .before in
+    let at-if1 = at-number .before .before .before in
+    let at-end = at-if1 .before .before in
+    let at-read-stmt = at-end .before .before .before .before in
+    let at-new3 = at-read-stmt .before in
+    let at-new2 = at-new3 .before .before in
+    let at-new = at-new2 .before in
+    let at-below = at-new .before in
+    let at-start = at-below .before .before .before in
+    let scope = at-root (at-start .args .i) (at-start .args .o) (at-below .below .result) (at-below .below .ensures) in
+    let root = rw (scope, at-new .new .ensures, at-new2 .new2 .ensures, at-new3 .new3 .ensures) at (at-read-stmt .read-stmt .ensures) in
+    let a = at-start .args in
+    let read = answers.root-read (a .s .now) (a .i) (a .o) (a .at) root (at-end .end .given .1) (at-if1 .if1 .left) in
+    rw (at-number .number .ensures, c .before .number2 .ensures, c .number3 .ensures) read
 
 pub read-root-spec : {M : Type 1} → statement M
 read-root-spec =
@@ -98,6 +109,7 @@ read-root-spec =
     below-requires
     new-requires
     new-requires-2
+    cast-read-stmt
     new-requires-3
     read-stmt-requires
     enum-known-f

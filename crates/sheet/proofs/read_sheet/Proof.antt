@@ -1,8 +1,9 @@
 -- The header is read number by number; then the root, unless there are too many signals.
 use native.Mathlib.Omega.{arith}
-use mathlib.Core.Path.{_≡_, sym, _∙_}
-use Prim.Native.Nat.{_+_, _%_}
+use mathlib.Core.Path.{sym, _∙_}
+use Prim.Native.Nat.{ℕ, _+_, _≤_}
 use borrow.Author.Tests.{ltb-true, ltb-false}
+use Rattle.limits.specs.Limits.{maxSignals}
 use Rattle.sheet.specs.Read.{readSheet, afterInputs, afterOutputs}
 use Rattle.sheet.proofs.Answers as answers
 use borrow.Author.Needs.{needs}
@@ -42,10 +43,11 @@ fault-of-requires-2 c κs = rw (c .enum-told2 .given .1) tt
 returns-2 : tie.Need-returns-2
 unfolding readSheet afterInputs afterOutputs
 returns-2 c =
-    let after-outputs = c .before .before .before in
-    let after-inputs = after-outputs .before .before .before .before in
-    let inputs = sym (after-inputs .read-number .ensures) ∙ after-outputs .before .before .a .given .1 in
-    let outputs = sym (after-outputs .read-number2 .ensures) ∙ c .fault-of2 .ensures in
+    let at-read-number2 = c .before .before .before in
+    let at-a = at-read-number2 .before .before in
+    let at-read-number = at-a .before .before in
+    let inputs = sym (at-read-number .read-number .ensures) ∙ at-a .a .given .1 in
+    let outputs = sym (at-read-number2 .read-number2 .ensures) ∙ c .fault-of2 .ensures in
     answers.sheet-stop (simp (inputs, outputs))
 
 header-full-requires : tie.Need-header-full-requires
@@ -65,25 +67,29 @@ returns-3 c =
     let at = at-b .b .given .0 .1 .0 .at in
     let inputs = sym (at-read-number .read-number .ensures) ∙ at-a .a .given .1 in
     let outputs = sym (at-read-number2 .read-number2 .ensures) ∙ at-b .b .given .1 in
-    let many = ltb-true 64 (1 + i + o) (sym (c .before .header-full .ensures) ∙ c .if1 .taken) in
+    let many = ltb-true maxSignals (1 + i + o) (sym (c .before .header-full .ensures) ∙ c .if1 .taken) in
     answers.sheet-stop (simp (inputs, outputs) (answers.header-stop (at-start .args .s .now) i o second at many))
 
+-- the numbers of the header, and that the signals fit, so that neither number is cut
+abbrev inputs-of : (c : tie.Else1) → ℕ
+inputs-of c = c .before .before .before .before .before .before .before .a .given .0 .0
+
+abbrev outputs-of : (c : tie.Else1) → ℕ
+outputs-of c = c .before .before .before .b .given .0 .0
+
+few : (c : tie.Else1) → 1 + inputs-of c + outputs-of c ≤ maxSignals
+few c = ltb-false maxSignals (1 + inputs-of c + outputs-of c) (sym (c .before .header-full .ensures) ∙ c .if1 .left)
+
 cast-read-root : tie.Need-cast-read-root
-cast-read-root c = search needs
+cast-read-root c = omega (arith, few (c .before))
 
 cast-read-root-2 : tie.Need-cast-read-root-2
-cast-read-root-2 c = search needs
+cast-read-root-2 c = omega (arith, few (c .before))
 
--- the signals fit, so that neither number is cut
 read-root-requires : tie.Need-read-root-requires
 read-root-requires c κs =
-    let at-b = c .before .before .before .before in
-    let at-a = at-b .before .before .before .before in
-    let at-start = at-a .before .before .before .before .before in
-    let i = at-a .a .given .0 .0 in
-    let o = at-b .b .given .0 .0 in
-    let few = ltb-false 64 (1 + i + o) (sym (c .before .before .header-full .ensures) ∙ c .before .if1 .left) in
-    (omega (arith, at-start .pre), omega (arith, few))
+    let at-start = c .before .before .before .before .before .before .before .before .before .before .before .before .before in
+    (omega (arith, at-start .pre), few (c .before))
 
 same-length : tie.Need-same-length
 same-length c = search needs
@@ -91,9 +97,9 @@ same-length c = search needs
 returns-4 : tie.Need-returns-4
 unfolding readSheet afterInputs
 returns-4 c =
-    let at-if1 = c .before .before .before .before in
-    let at-header-full = at-if1 .before in
-    let at-b = at-header-full .before .before in
+    let at-read-root = c .before .before in
+    let at-if1 = at-read-root .before .before in
+    let at-b = at-if1 .before .before .before in
     let at-read-number2 = at-b .before .before in
     let at-a = at-read-number2 .before .before in
     let at-read-number = at-a .before .before in
@@ -104,11 +110,8 @@ returns-4 c =
     let at = at-b .b .given .0 .1 .0 .at in
     let inputs = sym (at-read-number .read-number .ensures) ∙ at-a .a .given .1 in
     let outputs = sym (at-read-number2 .read-number2 .ensures) ∙ at-b .b .given .1 in
-    let few = ltb-false 64 (1 + i + o) (sym (at-header-full .header-full .ensures) ∙ at-if1 .if1 .left) in
-    let whole-i : i % 65536 ≡ i = omega (arith, few) in
-    let whole-o : o % 65536 ≡ o = omega (arith, few) in
-    let header = answers.header-fits (at-start .args .s .now) i o second at few in
-    simp (inputs, outputs, header) (rw (whole-i, whole-o) at (c .before .before .read-root .ensures))
+    let header = answers.header-fits (at-start .args .s .now) i o second at (few at-if1) in
+    simp (inputs, outputs, header) (at-read-root .read-root .ensures)
 
 pub read-sheet-spec : {M : Type 1} → statement M
 read-sheet-spec =

@@ -1,10 +1,10 @@
 -- The number at the marks decides: none, then its fault; one that is in scope, then that signal; any other is SCOPE.
-use Prim.Native.Nat.{_%_}
 use native.Mathlib.Omega.{arith}
-use mathlib.Core.Path.{_≡_, sym, _∙_}
-use Rattle.number.proofs.Laws.{value-small}
+use mathlib.Core.Path.{sym, _∙_}
+use Rattle.bits.proofs.Whole.{Proper, fits}
 use Rattle.number.specs.Number.{pick}
 use Rattle.sheet.specs.Read.{signalOf}
+use Rattle.sheet.proofs.Reading.{named-small}
 use borrow.Author.Needs.{needs}
 use Rattle.sheet.proofs.read_signal.Statement.{statement}
 use Rattle.sheet.proofs.read_signal.Tie as tie
@@ -30,8 +30,15 @@ returns c =
 member-requires : tie.Need-member-requires
 member-requires c κs = search needs
 
+-- it is in the scope, so that it is not cut
 cast-new : tie.Need-cast-new
-cast-new c = search needs
+cast-new c =
+    let at-r = c .before .before .before .before in
+    let at-start = at-r .before .before .before .before in
+    let held = at-start .good .1 .0 .1 .1 .1 .1 .0 in
+    let proper : Proper (at-start .args .e .scope .words) =
+    record { long = search (needs, held); small = λ p. fits (search (needs, held)) } in
+    omega (arith, named-small proper (at-r .r .given .0 .0) (sym (c .before .member .ensures) ∙ c .if1 .taken))
 
 new-requires : tie.Need-new-requires
 new-requires c κs = search needs
@@ -42,17 +49,20 @@ past-requires c κs = search needs
 returns-2 : tie.Need-returns-2
 unfolding signalOf pick
 returns-2 c =
-    let after-number = c .before .before .before .before .before .before .before in
-    let number = sym (after-number .read-number .ensures) ∙ c .before .before .before .before .before .r .given .1 in
-    let named = sym (c .before .before .before .member .ensures) ∙ c .before .before .if1 .taken in
-    let whole : c .before .before .before .before .before .r .given .0 .0 % 65536 ≡ c .before .before .before .before .before .r .given .0 .0 = omega
-    (arith, value-small _ _ number) in
-    simp (number, named, c .before .new .ensures, c .past .ensures, whole)
+    let at-if1 = c .before .before in
+    let at-member = at-if1 .before in
+    let at-r = at-member .before .before .before in
+    let at-read-number = at-r .before .before in
+    let number = sym (at-read-number .read-number .ensures) ∙ at-r .r .given .1 in
+    let named = sym (at-member .member .ensures) ∙ at-if1 .if1 .taken in
+    simp (number, named, c .before .new .ensures, c .past .ensures)
 
 returns-3 : tie.Need-returns-3
 unfolding signalOf pick
 returns-3 c =
-    let number = sym (c .before .before .before .before .before .read-number .ensures) ∙ c .before .before .before .r .given .1 in
+    let at-r = c .before .before .before .before in
+    let at-read-number = at-r .before .before in
+    let number = sym (at-read-number .read-number .ensures) ∙ at-r .r .given .1 in
     let unnamed = sym (c .before .member .ensures) ∙ c .if1 .left in
     simp (number, unnamed)
 

@@ -1,4 +1,4 @@
--- COUNT from 8 traps on.
+-- COUNT past the last trap.
 use mathlib.Core.Path.{sym, _∙_}
 use Rattle.number.specs.Number.{pick}
 use Rattle.sheet.specs.Read.{trapAt}

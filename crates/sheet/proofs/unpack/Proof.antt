@@ -30,7 +30,10 @@ new-requires-3 c κs = search needs
 
 returns : tie.Need-returns
 unfolding unpacked
-returns c = simp (c .before .before .before .head-from .ensures, c .before .before .new .ensures, c .before .new2 .ensures, c .new3 .ensures)
+returns c =
+    let at-new = c .before .before in
+    let at-head-from = at-new .before in
+    simp (at-head-from .head-from .ensures, at-new .new .ensures, c .before .new2 .ensures, c .new3 .ensures)
 
 pub unpack-spec : {M : Type 1} → statement M
 unpack-spec =

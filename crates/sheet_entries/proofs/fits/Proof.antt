@@ -1,6 +1,6 @@
 -- The sheet's fault first, then whether its rows say that the state fits.
-use Rattle.interpreter.proofs.Interpreting.{was-refused, was-compiled, whole}
-use Rattle.sheet_entries.proofs.SheetEntries.{fitting-refused, fitting-accepted, fitting-state}
+use Rattle.interpreter.proofs.Interpreting.{was-refused, was-compiled}
+use Rattle.sheet_entries.proofs.SheetEntries.{known, fitting-refused, fitting-accepted, fitting-state}
 use borrow.Author.Needs.{needs}
 use Rattle.sheet_entries.proofs.fits.Statement.{statement}
 use Rattle.sheet_entries.proofs.fits.Tie as tie
@@ -36,7 +36,7 @@ fits-requires : tie.Need-fits-requires
 fits-requires c κs =
     let at-c = c .before .before .before in
     let at-compile = at-c .before .before .before .before .before in
-    whole (was-compiled (at-compile .compile .ensures) (at-c .c .given .1) .is)
+    known (was-compiled (at-compile .compile .ensures) (at-c .c .given .1))
 
 acceptance-requires : tie.Need-acceptance-requires
 acceptance-requires c κs = search needs

@@ -37,6 +37,12 @@ within-requires c κs = search needs
 slice-aggregate-react : tie.Need-slice-aggregate-react
 slice-aggregate-react c = search needs
 
+of-word-requires : tie.Need-of-word-requires
+of-word-requires c κs = search needs
+
+of-word-requires-2 : tie.Need-of-word-requires-2
+of-word-requires-2 c κs = search needs
+
 react-requires : tie.Need-react-requires
 react-requires c κs = search needs
 
@@ -49,16 +55,22 @@ same-length-2 c = search needs
 returns-2 : tie.Need-returns-2
 returns-2 c =
     let at-refused-line = c .before .before in
-    let at-react = at-refused-line .before .before .before .before in
-    let at-within = at-react .before .before in
+    let at-if1 = at-refused-line .before .before in
+    let at-react = at-if1 .before .before in
+    let at-of-word2 = at-react .before in
+    let at-of-word = at-of-word2 .before in
+    let at-within = at-of-word .before .before in
     let at-event = at-within .before .before in
     let at-hex-value = at-event .before .before in
     let start = at-hex-value .before .before .before .before in
     let args = start .args in
     let is = sym (at-event .event .given .1) ∙ at-hex-value .hex-value .ensures in
     let same = at-within .within .ensures .1 in
+    let state = at-of-word .of-word .ensures in
+    let event = at-of-word2 .of-word2 .ensures in
     let reacted = at-react .react .ensures in
-    event-no (args .run) (args .column .now) (args .line .now) (at-within .within .result) is same reacted (omega arith) (at-refused-line .refused-line .ensures)
+    let line = at-refused-line .refused-line .ensures in
+    event-no (args .run) (args .column .now) (args .line .now) (at-within .within .result) is same state event reacted (at-if1 .if1 .taken) line
 
 instant-requires : tie.Need-instant-requires
 instant-requires c κs = search needs
@@ -69,16 +81,22 @@ same-length-3 c = search needs
 returns-3 : tie.Need-returns-3
 returns-3 c =
     let at-instant = c .before .before in
-    let at-react = at-instant .before .before .before .before in
-    let at-within = at-react .before .before in
+    let at-if1 = at-instant .before .before in
+    let at-react = at-if1 .before .before in
+    let at-of-word2 = at-react .before in
+    let at-of-word = at-of-word2 .before in
+    let at-within = at-of-word .before .before in
     let at-event = at-within .before .before in
     let at-hex-value = at-event .before .before in
     let start = at-hex-value .before .before .before .before in
     let args = start .args in
     let is = sym (at-event .event .given .1) ∙ at-hex-value .hex-value .ensures in
     let same = at-within .within .ensures .1 in
+    let state = at-of-word .of-word .ensures in
+    let event = at-of-word2 .of-word2 .ensures in
     let reacted = at-react .react .ensures in
-    event-instant (args .run) (args .column .now) (args .line .now) (at-within .within .result) is same reacted (omega arith) (at-instant .instant .ensures)
+    let line = at-instant .instant .ensures in
+    event-instant (args .run) (args .column .now) (args .line .now) (at-within .within .result) is same state event reacted (omega (arith, at-if1 .if1 .left)) line
 
 pub event-line-spec : {M : Type 1} → statement M
 event-line-spec =
@@ -92,6 +110,8 @@ event-line-spec =
     returns
     within-requires
     slice-aggregate-react
+    of-word-requires
+    of-word-requires-2
     react-requires
     refused-line-requires
     same-length-2

@@ -1,6 +1,6 @@
 -- The texts stand one behind the other; a decimal number takes 20 bytes at most, a hex number 16.
 use native.Mathlib.Omega.{arith}
-use Rattle.writer.proofs.Laying.{writes-more}
+use Rattle.netlists.proofs.Laying.{writes-more}
 use Rattle.tracing.specs.Texts.{instantText}
 use Rattle.tracing.proofs.Numerals.{decimal-short, hex-short}
 use borrow.Author.Needs.{needs}

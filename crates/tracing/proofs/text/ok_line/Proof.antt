@@ -1,6 +1,6 @@
 -- The texts stand one behind the other; a number takes 20 bytes at most.
 use native.Mathlib.Omega.{arith}
-use Rattle.writer.proofs.Laying.{writes-more}
+use Rattle.netlists.proofs.Laying.{writes-more}
 use Rattle.tracing.specs.Texts.{okText}
 use Rattle.tracing.proofs.Numerals.{decimal-short}
 use borrow.Author.Needs.{needs}

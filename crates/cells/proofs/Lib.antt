@@ -1,0 +1,5 @@
+pub mod Within
+pub mod Words
+pub mod Counting
+pub mod Needing
+pub mod Fitting

@@ -1,2 +1,0 @@
-pub mod ManyEntries
-pub mod OneManyAnswer

@@ -1,0 +1,41 @@
+-- The kind, and the operands behind it.
+use Rattle.files.specs.File.{operandBytes}
+use Rattle.netlists.proofs.Laying.{kind-writes, writes-more, still-room}
+use borrow.Author.Needs.{needs}
+use Rattle.netlists.proofs.writer.write_cell.Statement.{statement}
+use Rattle.netlists.proofs.writer.write_cell.Tie as tie
+
+kind-of-requires : tie.Need-kind-of-requires
+kind-of-requires c κs = search needs
+
+write-number-requires : tie.Need-write-number-requires
+write-number-requires c κs = search needs
+
+write-operands-requires : tie.Need-write-operands-requires
+write-operands-requires c κs =
+    let at-write-number = c .before .before .before in
+    let at-kind-of = at-write-number .before in
+    let start = at-kind-of .before .before .before in
+    let pre = start .pre in
+    let cell = start .args .c in
+    let kind = kind-writes cell (pre .1) (rw (at-kind-of .kind-of .ensures) at (at-write-number .write-number .ensures)) in
+    (pre .0, still-room (operandBytes cell) kind (pre .1))
+
+same-length : tie.Need-same-length
+same-length c = search needs
+
+returns : tie.Need-returns
+returns c =
+    let at-write-operands = c .before .before in
+    let at-write-number = at-write-operands .before .before .before .before in
+    let at-kind-of = at-write-number .before in
+    let start = at-kind-of .before .before .before in
+    let pre = start .pre in
+    let cell = start .args .c in
+    let kind = kind-writes cell (pre .1) (rw (at-kind-of .kind-of .ensures) at (at-write-number .write-number .ensures)) in
+    writes-more kind (at-write-operands .write-operands .ensures)
+
+pub write-cell-spec : {M : Type 1} → statement M
+write-cell-spec =
+    tie.close
+    (tie.spec kind-of-requires write-number-requires write-operands-requires same-length returns)

@@ -1,0 +1,127 @@
+// The writer of netlist files.
+use cells::Cell;
+use number::CellNo;
+use number::Fault;
+use number::Refusal;
+ghost use mathlib.Core.Path.{_≡_};
+ghost use mathlib.Core.List.{_++_};
+ghost use Prim.Native.Nat.{_+_, _≤_};
+ghost use lib.ListN.{length};
+ghost use lib.Seq.{sets};
+ghost use Rattle.number.specs.Counts.{ofCell};
+ghost use Rattle.number.specs.Number.{numberBytes, numberLength};
+ghost use Rattle.limits.specs.Limits.{maxCells};
+ghost use Rattle.cells.specs.Words.{cellsOf};
+ghost use Rattle.cells.specs.Netlist.{netlistOf, WellFormed};
+ghost use Rattle.files.specs.File.{operandBytes, cellBytes, cellsBytes};
+ghost use Rattle.netlists.specs.Write.{fileLength, SmallPair, SmallCell, SmallCells, Writes, DidWrite};
+
+// The length of the file that was written, or BUFFER.
+pub enum FileWritten {
+    Length(usize),
+    Refused(Fault),
+}
+
+fn number_length(v: u32) -> usize
+    ensures { λ r. ⌜ r ≡ numberLength v ⌝ }
+{
+    if v < 128 {
+        return 1;
+    }
+    2
+}
+
+fn pair_length(x: CellNo, y: CellNo) -> usize
+    ensures { λ r. ⌜ r ≡ numberLength (ofCell x) + numberLength (ofCell y) ⌝ }
+{
+    number_length(x.number() as u32) + number_length(y.number() as u32)
+}
+
+fn operand_length(c: Cell) -> usize
+    ensures { λ r. ⌜ r ≡ length (operandBytes c) ⌝ }
+{
+    match c {
+        Cell::Low => 0,
+        Cell::High => 0,
+        Cell::Input(s) => number_length(s.number() as u32),
+        Cell::Gate(_, x, y) => pair_length(x, y),
+        Cell::Register(x) => number_length(x.number() as u32),
+    }
+}
+
+// The length of a netlist's file.
+fn file_length(i: u32, o: u32, words: &[u64]) -> usize
+    requires { ⌜ WellFormed (netlistOf i o (now words)) ⌝ }
+    ensures { λ r. ⌜ r ≡ fileLength (netlistOf i o (now (words .entry))) ⌝ }
+{
+    let mut length = number_length(i) + number_length(o) + number_length(words.len() as u32);
+    let mut n: usize = 0;
+    while n < words.len() {
+        length += 1 + operand_length(cells::cell_at(words, CellNo::new(n as u16)));
+        n += 1;
+    }
+    length
+}
+
+fn write_pair(buffer: &mut [u8], at: usize, x: CellNo, y: CellNo) -> usize
+    requires { ⌜ SmallPair x y × (at + length (numberBytes (ofCell x) ++ numberBytes (ofCell y)) ≤ length (now buffer)) ⌝ }
+    ensures { λ r. ⌜ Writes (numberBytes (ofCell x) ++ numberBytes (ofCell y)) at r (now (buffer .entry)) (now (buffer .exit)) ⌝ }
+{
+    let next = number::write_number(buffer, at, x.number() as u32);
+    number::write_number(buffer, next, y.number() as u32)
+}
+
+fn write_operands(buffer: &mut [u8], at: usize, c: Cell) -> usize
+    requires { ⌜ SmallCell c × (at + length (operandBytes c) ≤ length (now buffer)) ⌝ }
+    ensures { λ r. ⌜ Writes (operandBytes c) at r (now (buffer .entry)) (now (buffer .exit)) ⌝ }
+{
+    match c {
+        Cell::Low => at,
+        Cell::High => at,
+        Cell::Input(s) => number::write_number(buffer, at, s.number() as u32),
+        Cell::Gate(_, x, y) => write_pair(buffer, at, x, y),
+        Cell::Register(x) => number::write_number(buffer, at, x.number() as u32),
+    }
+}
+
+// A cell's kind and operands.
+fn write_cell(buffer: &mut [u8], at: usize, c: Cell) -> usize
+    requires { ⌜ SmallCell c × (at + length (cellBytes c) ≤ length (now buffer)) ⌝ }
+    ensures { λ r. ⌜ Writes (cellBytes c) at r (now (buffer .entry)) (now (buffer .exit)) ⌝ }
+{
+    let next = number::write_number(buffer, at, cells::kind_of(c));
+    write_operands(buffer, next, c)
+}
+
+// All cells, in order.
+fn write_cells(words: &[u64], buffer: &mut [u8], start: usize)
+    requires { ⌜ SmallCells (cellsOf (now words)) × (length (now words) ≤ maxCells)
+        × (start + length (cellsBytes (cellsOf (now words))) ≤ length (now buffer)) ⌝ }
+    ensures { λ _. ⌜ now (buffer .exit) ≡ sets (now (buffer .entry)) start (cellsBytes (cellsOf (now (words .entry)))) ⌝ }
+{
+    let mut at = start;
+    let mut n: usize = 0;
+    while n < words.len() {
+        at = write_cell(buffer, at, cells::cell_at(words, CellNo::new(n as u16)));
+        n += 1;
+    }
+}
+
+// The netlist's file. The length is known before the first byte is written, so that a buffer too short is left as it is.
+pub fn write_file(i: u32, o: u32, words: &[u64], buffer: &mut [u8]) -> FileWritten
+    requires { ⌜ WellFormed (netlistOf i o (now words)) ⌝ }
+    ensures { λ r. ⌜ DidWrite (netlistOf i o (now (words .entry))) r (now (buffer .entry)) (now (buffer .exit)) ⌝ }
+{
+    let length = file_length(i, o, words);
+    if buffer.len() < length {
+        return FileWritten::Refused(Fault {
+            refusal: Refusal::Buffer,
+            place: length,
+        });
+    }
+    let second = number::write_number(buffer, 0, i);
+    let third = number::write_number(buffer, second, o);
+    let start = number::write_number(buffer, third, words.len() as u32);
+    write_cells(words, buffer, start);
+    FileWritten::Length(length)
+}
