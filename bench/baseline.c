@@ -5,7 +5,7 @@
 #include <stdbool.h>
 #include <string.h>
 
-enum { SHORT = 1, NUMBER, KIND, COUNT, SCOPE, EMIT, EXIT, EXTRA, INSTANT, TWICE, ROOM, CYCLE, EVENT, STATE, BUFFER, CELL };
+enum { SHORT = 1, NUMBER, KIND, COUNT, SCOPE, EMIT, EXIT, EXTRA, INSTANT, TWICE, ROOM, CYCLE, EVENT, STATE, BUFFER, CELL, ORDER = 20 };
 enum { NOTHING, HALT, EMITS, SEQUENCE, LOOP, PRESENT, WATCHING, PARALLEL, TRAP, EXITS, SIGNAL };
 enum { LOW, HIGH, INPUT, OR, AND, BUTNOT, REGISTER };
 enum { STATEMENTS = 256, LEVELS = 64, HALTS = 63, SIGNALS = 64, TRAPS = 8, CELLS = 1024, REGISTERS = 64, CODES = 10 };
@@ -1135,4 +1135,33 @@ krankovel_course krankovel_react_cells_many(uint32_t inputs, uint32_t outputs, c
     struct machine m;
     krankovel_answer a = load_words(inputs, outputs, words, cells, &w, &m);
     return clocked_many(a, &m, state, events, count, signals, states, least(signals_room, states_room));
+}
+
+/* ---- tables ---- */
+
+krankovel_reordered krankovel_reorder(krankovel_table table, uint64_t order)
+{
+    krankovel_reordered r = {.table = table};
+    unsigned left[KRANKOVEL_PINS] = {0, 1, 2, 3}, carried[KRANKOVEL_PINS], share = 24, at = (unsigned)order;
+    if (order >= 24) {
+        r.number = ORDER;
+        return r;
+    }
+    for (unsigned q = 0; q < KRANKOVEL_PINS; q++) {
+        share /= KRANKOVEL_PINS - q;
+        unsigned k = at / share;
+        at %= share;
+        carried[q] = left[k];
+        r.table.pins[q] = table.pins[left[k]];
+        for (; k + 1 < KRANKOVEL_PINS - q; k++)
+            left[k] = left[k + 1];
+    }
+    r.table.truth = 0;
+    for (unsigned b = 0; b < 1u << KRANKOVEL_PINS; b++) {
+        unsigned to = 0;
+        for (unsigned q = 0; q < KRANKOVEL_PINS; q++)
+            to |= (b >> carried[q] & 1) << q;
+        r.table.truth |= (uint16_t)((table.truth >> b & 1) << to);
+    }
+    return r;
 }

@@ -39,6 +39,8 @@ static void react_cells_many(void)
     sink += krankovel_react_cells_many(inputs, outputs, words, cells, 0, events, EVENTS, signals, EVENTS, states, EVENTS).number;
 }
 
+static void reorder(void) { sink += krankovel_reorder((krankovel_table){1, {2, 3, 4, 5}, (uint16_t)length}, length % 25).number; }
+
 static struct {
     const char *name;
     void (*call)(void);
@@ -48,7 +50,7 @@ static struct {
     {"read", read, 0, ""}, {"check", check, 0, ""}, {"compile", compile, 0, ""}, {"compile_cells", compile_cells, 0, ""}, {"fits", fits, 0, ""},
     {"rest", rest, 0, ""}, {"react", react, 0, ""}, {"react_many", react_many, 0, ""}, {"check_file", check_file, 0, ""}, {"read_file", read_file, 0, ""},
     {"react_file", react_file, 0, ""}, {"react_file_many", react_file_many, 0, ""}, {"check_cells", check_cells, 0, ""}, {"write_cells", write_cells, 0, ""},
-    {"react_cells", react_cells, 0, ""}, {"react_cells_many", react_cells_many, 0, ""},
+    {"react_cells", react_cells, 0, ""}, {"react_cells_many", react_cells_many, 0, ""}, {"reorder", reorder, 0, ""},
 };
 enum { ENTRIES = sizeof entries / sizeof *entries };
 

@@ -1,14 +1,15 @@
-/* Krankovel for C: Pure Esterel sheets are checked, compiled to netlists and run; netlists are checked, run, read and written.
+/* Krankovel for C: Pure Esterel sheets are checked, compiled to netlists and run; netlists are checked, run, read and written; tables of a packer are reordered.
 
    Build:    rt staticlib krankovel_c        makes target/staticlib/libkrankovel_c.a (x86-64 Linux)
    Link:     cc PROGRAM.c -I include target/staticlib/libkrankovel_c.a
 
    Whatever is handed in is answered, or refused with a number and a place (below). Nothing has to be tested before, and each entry is proved to answer what its
    contract in crates/krankovel_c says, for every argument. No entry allocates, keeps anything between two calls, or calls the system: any number of threads may
-   call any of them at a time. Each needs at most 64 KB of stack (docs/SPEED.md has the figure of each).
+   call any of them at a time. Each was measured to need less than 64 KB of stack (docs/SPEED.md has the figure of each).
 
    A SLICE is a pointer and a length, the number of its elements. The pointer is never null, also where the length is 0: then any other pointer will do, and it is not
-   followed. A pointer to uint64_t is a multiple of 8. A slice that an entry writes (`buffer`, `words`, `signals`, `states`) overlaps no other slice of the same call.
+   followed. A pointer to uint64_t is a multiple of 8. A slice that an entry writes (`buffer`; `words` where they are not const; `emissions`, `outputs`, `signals`, `states`)
+   overlaps no other slice of the same call.
    Lent slices are written only on acceptance, and only as far as the answer reaches.
 
    NUMBERS AND PLACES. Every answer has a number, 0 for acceptance, and a place, 0 on acceptance:
@@ -17,7 +18,8 @@
       1  SHORT    the bytes end                                                                offset of the number begun
       2  NUMBER   a number's second byte is 0 or over 127                                      the same
       3  KIND     a kind over 10, or over 6 in a netlist                                       the same
-      4  COUNT    a limit is passed                                                            offset of the second header number, kind, or missing statement
+      4  COUNT    a limit is passed                                                            offset of the second header number, kind, or missing statement;
+                                                                                               of a file's count of cells
       5  SCOPE    no such signal here                                                          the operand's offset
       6  EMIT     tick or an input is emitted                                                  the same
       7  EXIT     a level that is not 2..1+d, d being the traps around                         the same
@@ -31,6 +33,7 @@
      15  BUFFER   a lent slice is too short                                                    the length needed
      16  CELL     cells 0..I+1 not as they must be, kinds 0 to 2 elsewhere, an operand that    offset of the kind, operand or count
                   is no cell, fewer than 2+I+O cells, or something in a field that is not used
+     20  ORDER    a pin order of 24 or more                                                    0
 
    Where a netlist is handed in as words there are no bytes, and what would be an offset is 0. The numbers are looked for in the order 1 to 8 as the bytes are read, then 9, 10,
    11, 12 (for a netlist 1 to 4 and 16, 8, then 12), then 13, 14, 15. The first one found answers. The counts and signals of a refusal are 0, its state is the one handed in.
@@ -75,8 +78,12 @@ enum {
     KRANKOVEL_EVENT = 13,
     KRANKOVEL_STATE = 14,
     KRANKOVEL_BUFFER = 15,
-    KRANKOVEL_CELL = 16
+    KRANKOVEL_CELL = 16,
+    KRANKOVEL_ORDER = 20
 };
+
+/* Pins of a table. */
+enum { KRANKOVEL_PINS = 4 };
 
 /* The counts are those of an acceptance; of a netlist that came as a netlist the statements are 0. */
 typedef struct {
@@ -124,6 +131,21 @@ typedef struct {
     uint64_t state;
 } krankovel_course;
 
+/* A table: its cell, the cells at its pins, and a truth table with a bit for each setting of the pins. Pin p weighs 2 to the p, and the sum over the pins that are high is the
+   number of the bit that the table answers. */
+typedef struct {
+    uint16_t cell;
+    uint16_t pins[KRANKOVEL_PINS];
+    uint16_t truth;
+} krankovel_table;
+
+/* An answer with a table; a refusal has the one handed in. */
+typedef struct {
+    uint8_t number;
+    size_t place;
+    krankovel_table table;
+} krankovel_reordered;
+
 /* ---- sheets ---- */
 
 /* Reads a sheet and goes no further. Refusals: 1 to 8. */
@@ -168,7 +190,7 @@ krankovel_reaction krankovel_react_file(const uint8_t *file, size_t length, uint
 krankovel_course krankovel_react_file_many(const uint8_t *file, size_t length, uint64_t state, const uint64_t *events, size_t count,
     uint64_t *outputs, size_t outputs_room, uint64_t *states, size_t states_room);
 
-/* ---- netlists as words: I, O and the cells. All places but that of CYCLE are 0. ---- */
+/* ---- netlists as words: I, O and the cells. All places but those of CYCLE and BUFFER are 0. ---- */
 
 /* Checks cells. Refusals: 3, 4, 12, 16. */
 krankovel_answer krankovel_check_cells(uint32_t inputs, uint32_t outputs, const uint64_t *words, size_t count);
@@ -182,6 +204,13 @@ krankovel_reaction krankovel_react_cells(uint32_t inputs, uint32_t outputs, cons
 /* The same for many events; the cells are checked and ordered once. Refusals: 3, 4, 12, 16; then as krankovel_react_many. */
 krankovel_course krankovel_react_cells_many(uint32_t inputs, uint32_t outputs, const uint64_t *words, size_t cells, uint64_t state,
     const uint64_t *events, size_t count, uint64_t *signals, size_t signals_room, uint64_t *states, size_t states_room);
+
+/* ---- tables: any numbers may stand in one, and nothing is looked up by them ---- */
+
+/* Reorders the pins of a table and its truth table together, so that it answers as before on the same cells. An order names for each new pin the old pin that it carries, and is the
+   number of that list in dictionary order: 0 is 0 1 2 3, 1 is 0 1 3 2, 23 is 3 2 1 0. What undoes the orders 0 to 23 are the orders 0, 1, 2, 4, 3, 5, 6, 7, 12, 18, 13, 19, 8, 10,
+   14, 20, 16, 22, 9, 11, 15, 21, 17, 23. Refusals: 20. */
+krankovel_reordered krankovel_reorder(krankovel_table table, uint64_t order);
 
 #ifdef __cplusplus
 }

@@ -224,7 +224,7 @@ int main(int argc, char **argv)
         if (!strcmp(kind, "file") || !strcmp(kind, "reactfile")) {
             files++;
             try_file(hex, b, n);
-        } else if (strcmp(kind, "rest")) {
+        } else if (strcmp(kind, "rest") && strcmp(kind, "order")) {
             sheets++;
             try_sheet(hex, b, n);
         }

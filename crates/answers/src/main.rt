@@ -1,4 +1,5 @@
 // Answers questions, a line each, on standard output, a line each. A line that is no question answers `bad line`.
+mod order;
 mod output;
 mod questions;
 mod words;

@@ -1,4 +1,5 @@
 // The questions. A line is the question's word, then the words it asks about, one blank between them.
+use crate::order;
 use crate::output;
 use crate::words;
 use digits::Value;
@@ -116,6 +117,10 @@ fn answer_more(word: &[u8], bytes: &[u8], text: &[u8]) {
 fn answer_question(word: &[u8], text: &[u8]) {
     if check::same(word, b"rest") {
         answer_rest(text);
+        return;
+    }
+    if check::same(word, b"order") {
+        order::answer(text);
         return;
     }
     let mut bytes = [0u8; 8192];

@@ -5,6 +5,8 @@ use krankovel::Course;
 use krankovel::Listing;
 use krankovel::Reaction;
 use krankovel::Reading;
+use krankovel::Reordered;
+use krankovel::Table;
 ghost use mathlib.Core.Path.{_≡_};
 ghost use Rattle.bits.specs.Bits.{has, whole};
 ghost use Rattle.sheet.specs.Read.{readSheet};
@@ -17,6 +19,7 @@ ghost use Rattle.netlist_entries.specs.Cells.{NetListed};
 ghost use Rattle.netlist_entries.specs.Netlists.{NetChecked, NetReactedMany};
 ghost use Rattle.compile_entries.specs.Compile.{Written, Listed};
 ghost use Rattle.verdicts.specs.Runs.{Once};
+ghost use Rattle.tables.specs.Reordering.{Reorders};
 
 #[no_mangle]
 pub extern "C" fn krankovel_read(s: &[u8]) -> Reading
@@ -165,4 +168,11 @@ pub extern "C" fn krankovel_react_cells_many(
         (record { course = r; signals = now (signals .exit); states = now (states .exit) }) ⌝ }
 {
     krankovel::react_cells_many(inputs, outputs, words, state, events, signals, states)
+}
+
+#[no_mangle]
+pub extern "C" fn krankovel_reorder(table: Table, order: u64) -> Reordered
+    ensures { λ r. ⌜ Reorders order table r ⌝ }
+{
+    table.reorder(order)
 }

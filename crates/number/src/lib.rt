@@ -11,6 +11,8 @@ pub struct HaltNo(u16);
 
 pub struct StmtNo(u16);
 
+// Laid out for C, since a table of cells goes there whole.
+#[repr(C)]
 pub struct CellNo(u16);
 
 impl SignalNo {

@@ -5,6 +5,7 @@ use crate::netlist::Netlist;
 use crate::rules::{self, Guess};
 use crate::sets::Sets;
 use crate::sheet::{self, refuse, Checked, Fault, Sheet, BUFFER, EVENT, ROOM, STATE};
+use crate::table;
 
 /// An accepted sheet, with what was found on the way.
 pub struct Program {
@@ -109,6 +110,7 @@ impl Agreement {
             [b"write", sheet, length] => Some(write_line(&bytes_of(sheet)?, decimal_value(length)?)),
             [b"file", bytes] => Some(file_line(&bytes_of(bytes)?)),
             [b"fits", sheet, state] => Some(sheet_line(fits(&bytes_of(sheet)?, hex_value(state)?))),
+            [b"order", order, table] => table::line(order, table),
             [b"react", sheet, state, event] => {
                 let (bytes, state, event) = (bytes_of(sheet)?, hex_value(state)?, hex_value(event)?);
                 Some(reaction_line(self.react_sheet(&bytes, state, event), state))
@@ -214,7 +216,12 @@ pub fn hex_value(text: &[u8]) -> Option<u64> {
     Some(digits(text, 16, 16)?.into_iter().fold(0, |value, d| 16 * value + d as u64))
 }
 
+/// A number of at most so many decimal digits.
+pub fn decimal(text: &[u8], most: usize) -> Option<u128> {
+    Some(digits(text, 10, most)?.into_iter().fold(0, |value, d| 10 * value + d as u128))
+}
+
 /// A length; 8,192 where it is more.
 fn decimal_value(text: &[u8]) -> Option<usize> {
-    Some(digits(text, 10, 20)?.into_iter().fold(0, |value, d| (10 * value + d as usize).min(8192)))
+    Some(decimal(text, 20)?.min(8192) as usize)
 }

@@ -17,7 +17,8 @@ impl Questions {
     pub fn make(&mut self, count: usize) {
         while self.lines.len() < count {
             match self.random.below(20) {
-                0..=11 => self.about_program(),
+                0..=10 => self.about_program(),
+                11 => self.about_table(),
                 12..=13 => self.about_damaged_program(),
                 14..=15 => self.about_limit(),
                 16..=18 => self.about_file(),
@@ -204,6 +205,29 @@ impl Questions {
             let (state, event) = (self.word(state), self.word(event));
             self.ask(&["reactfile", &file_hex, &state, &event]);
         }
+    }
+
+    /// A table in each order, and in one that there is not.
+    fn about_table(&mut self) {
+        let few = self.random.percent(30);
+        let cells: Vec<String> = (0..5).map(|_| self.random.below(if few { 6 } else { 65536 }).to_string()).collect();
+        let truth = self.random.below(65536);
+        let table = match self.random.below(6) {
+            0 => format!("{}:{truth:04X}", cells.join(":0")),
+            1 => format!("{}:{:x}", cells.join(":"), 1 << self.random.below(16)),
+            _ => format!("{}:{truth:x}", cells.join(":")),
+        };
+        for order in 0..24 {
+            self.ask(&["order", &order.to_string(), &table]);
+        }
+        let order = match self.random.below(6) {
+            0 => self.random.between(24, 300).to_string(),
+            1 => format!("{:020}", self.random.below(24)),
+            2 => format!("{}", u64::MAX as u128 + self.random.below(3) as u128),
+            3 => format!("{}", u64::MAX as u128 * self.random.between(2, 9) as u128),
+            _ => self.random.word().to_string(),
+        };
+        self.ask(&["order", &order, &table]);
     }
 
     /// A line as it was asked before, spoilt as a text; or the longest line, and one longer.

@@ -1,0 +1,3 @@
+pub mod Answering
+pub mod Orders
+pub mod Reordering
