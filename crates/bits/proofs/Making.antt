@@ -16,7 +16,7 @@ use Rattle.bits.specs.declared.Bits.{Bits}
 use Rattle.bits.specs.Bits.{has, noneFrom, noBits, words, width, whole, wordsOf}
 use Rattle.bits.specs.Code.{SameAt}
 use Rattle.bits.proofs.Laws.{has-past}
-use Rattle.bits.proofs.NoBits.{no-bits, bit-off}
+use Rattle.bits.proofs.NoBits.{no-bits, no-bits-same, bit-off}
 use Rattle.bits.proofs.None.{none-past, past-none}
 use Rattle.bits.proofs.Whole.{Proper, has-whole, has-word, has-wide, words-whole}
 
@@ -124,6 +124,14 @@ module _ {s : Bits} (proper : Proper (s .words)) (i : ℕ) where
       go : noneFrom k (whole s) ≡ true → (m : ℕ) → k - 64 * i ≤ m → Dec (m < 64) → has word m ≡ false
       go on m l (yes h) = sym (has-word {b = s} proper i m h) ∙ none-past k (whole s) on (64 * i + m) (omega arith)
       go on m l (no h) = has-past 64 word m (proper .small i) (omega arith)
+
+  pub bits-within : (a n : ℕ) → i ≡ 0 → a + n ≤ 64 → noBits n a (has word) ≡ noBits n a (has (whole s))
+  bits-within a n first few = no-bits-same n a (has word) (has (whole s)) (λ j l r. sym (here j (omega arith)))
+    where
+      here : (j : ℕ) → j < 64 → has (whole s) j ≡ has word j
+      here j h =
+          let e : 64 * i + j ≡ j = omega arith in
+          rw e at (has-word {b = s} proper i j h)
 
   pub bits-more : (a n : ℕ) → Off (whole s) a (a + n) i
       → noBits (min (a + n - 64 * i) 64 - min (a - 64 * i) 64) (min (a - 64 * i) 64) (has word) ≡ true → Off (whole s) a (a + n) (i + 1)

@@ -1,13 +1,14 @@
 -- The laws of `noBits`: bit by bit, in two parts, and of a word.
 use mathlib.Core.Path.{_≡_, refl, sym, ap, _∙_}
 use mathlib.Core.Bool.{Bool, true, false, not, _&&_}
-use Prim.Native.Nat.{ℕ, zero, suc, _+_, _-_, _*_, _/_, _%_, _^_, _<_, _≤_}
+use Prim.Native.Nat.{ℕ, zero, suc, _+_, _*_, _/_, _%_, _^_, _<_, _≤_}
 use native.Mathlib.Omega.{arith}
-use native.Mathlib.Decide.{ℕ-discrete}
-use native.Mathlib.Nat.{add-zero, mul-comm, suc-mul, mul-mod-left}
-use lib.Dec.{eqb}
-use lib.Pow.{pow-pos, shl-shr, shr-shr, mod-pow-add}
-use borrow.Author.Tests.{eq-eqb, ne-eqb}
+use native.Mathlib.Decide.{decLe, decLt, ℕ-discrete}
+use native.Mathlib.Nat.{mul-comm}
+use lib.Count.{under, trailingZeros}
+use lib.Dec.{eqb, leb}
+use lib.Pow.{shr-shr, mod-pow-add}
+use borrow.Author.Tests.{eq-eqb, ne-eqb, le-leb, lt-leb}
 use Rattle.number.proofs.Bools.{taut}
 use Rattle.bits.specs.Bits.{has, noBits}
 
@@ -15,6 +16,13 @@ pub no-bits : (k b : ℕ) (S : ℕ → Bool) → ((j : ℕ) → b ≤ j → j < 
 unfolding noBits
 no-bits zero b S off = refl
 no-bits (suc k) b S off = rw (off b (omega arith) (omega arith)) (no-bits k (suc b) S (λ j l r. off j (omega arith) (omega arith)))
+
+-- what is so of the bits that are asked
+pub no-bits-same : (k b : ℕ) (S T : ℕ → Bool) → ((j : ℕ) → b ≤ j → j < b + k → S j ≡ T j) → noBits k b S ≡ noBits k b T
+unfolding noBits
+no-bits-same zero b S T f = refl
+no-bits-same (suc k) b S T f =
+    rw (f b (omega arith) (omega arith), no-bits-same k (suc b) S T (λ j l r. f j (omega arith) (omega arith)))
 
 first-off : (x y : Bool) → (not x && y) ≡ true → x ≡ false
 first-off = taut 2 1 _ _ _ tt
@@ -65,23 +73,33 @@ no-bits-word (suc k) b w =
     let whole : x % 2 ^ suc k ≡ 2 * (x / 2 % 2 ^ k) + x % 2 = rw (more k, mul-comm (x / 2 % 2 ^ k) 2) at (mod-pow-add x k 1) in
     rw (no-bits-word k (suc b) w) (sym (low-and-high (x % 2 ^ suc k) (w / 2 ^ suc b % 2 ^ k) (x % 2) (rw half at whole) (omega arith)))
 
-pub no-bits-none : (k b : ℕ) (S : ℕ → Bool) → k ≡ 0 → true ≡ noBits k b S
-unfolding noBits
-no-bits-none k b S e = rw e
-
--- k bits from b on, cut off by a shift to the top of 64
-pub no-bits-shifted : (k b w : ℕ) → 0 < k → k ≤ 64 → eqb (w / 2 ^ b * 2 ^ (64 - k) % 2 ^ 64) 0 ≡ noBits k b (has w)
-no-bits-shifted k b w some few =
-    let x : ℕ = w / 2 ^ b in
-    let m : ℕ = 64 - k in
-    let e : 64 ≡ k + m = omega arith in
-    let low : x * 2 ^ m % 2 ^ m ≡ 0 = mul-mod-left x (2 ^ m) in
-    let cut : x * 2 ^ m % 2 ^ 64 ≡ x % 2 ^ k * 2 ^ m =
-    ap (λ (n : ℕ). x * 2 ^ m % 2 ^ n) e ∙ mod-pow-add (x * 2 ^ m) k m ∙ rw (shl-shr x m, low) (add-zero (x % 2 ^ k * 2 ^ m)) in
-    rw cut (times-zero (x % 2 ^ k) (2 ^ (64 - k)) (pow-pos (64 - k)) ∙ sym (no-bits-word k b w))
+-- The k lowest bits are off where at least k zeros stand below the lowest bit that is on.
+zeros-below : (k m x : ℕ) → k ≤ m → leb k (trailingZeros m x) ≡ eqb (x % 2 ^ k) 0
+unfolding trailingZeros
+zeros-below zero m x few = le-leb 0 (trailingZeros m x) (omega arith) ∙ sym (eq-eqb (x % 2 ^ 0) 0 (omega arith))
+zeros-below (suc k) zero x few = absurd (omega arith)
+zeros-below (suc k) (suc m) x few =
+    let more : (n : ℕ) → n + 1 ≡ suc n = λ n. omega arith in
+    let whole : x % 2 ^ suc k ≡ 2 * (x / 2 % 2 ^ k) + x % 2 = rw (more k, mul-comm (x / 2 % 2 ^ k) 2) at (mod-pow-add x k 1) in
+    low (x % 2) (trailingZeros m (x / 2)) (omega arith)
+    ∙ ap (λ (b : Bool). not (eqb (x % 2) 1) && b) (zeros-below k m (x / 2) (omega arith))
+    ∙ sym (low-and-high (x % 2 ^ suc k) (x / 2 % 2 ^ k) (x % 2) whole (omega arith))
   where
-    times-zero : (a m : ℕ) → 0 < m → eqb (a * m) 0 ≡ eqb a 0
-    times-zero zero m h = eq-eqb (0 * m) 0 (omega arith)
-    times-zero (suc a) m h =
-        let e : suc a * m ≡ a * m + m = suc-mul a m in
-        ne-eqb (suc a * m) 0 (λ q. omega arith) ∙ sym (ne-eqb (suc a) 0 (λ q. omega arith))
+    next : (t : ℕ) → Dec (k ≤ t) → leb (suc k) (suc t) ≡ leb k t
+    next t (yes h) = le-leb (suc k) (suc t) (omega arith) ∙ sym (le-leb k t h)
+    next t (no h) = lt-leb (suc k) (suc t) (omega arith) ∙ sym (lt-leb k t (omega arith))
+
+    low : (d t : ℕ) → d < 2 → leb (suc k) (under d t) ≡ (not (eqb d 1) && leb k t)
+    low zero t h = next t (decLe k t)
+    low (suc zero) t h = lt-leb (suc k) 0 (omega arith)
+    low (suc (suc d)) t h = absurd (omega arith)
+
+-- k bits from b on, of 64, by the zeros from b on
+pub no-bits-zeros : (k b w : ℕ) → b + k ≤ 64 → leb k (trailingZeros 64 (w / 2 ^ (b % 64))) ≡ noBits k b (has w)
+no-bits-zeros k b w few = zeros-below k 64 (w / 2 ^ (b % 64)) (omega arith) ∙ go (decLt b 64) ∙ sym (no-bits-word k b w)
+  where
+    go : Dec (b < 64) → eqb (w / 2 ^ (b % 64) % 2 ^ k) 0 ≡ eqb (w / 2 ^ b % 2 ^ k) 0
+    go (yes h) = let e : b % 64 ≡ b = omega arith in rw e
+    go (no h) =
+        let none : k ≡ 0 = omega arith in
+        rw none (eq-eqb (w / 2 ^ (b % 64) % 2 ^ 0) 0 (omega arith) ∙ sym (eq-eqb (w / 2 ^ b % 2 ^ 0) 0 (omega arith)))

@@ -63,10 +63,7 @@ fn none_in(w: u64, from: u32, count: u32) -> bool
     requires { ⌜ from + count ≤ 64 ⌝ }
     ensures { λ r. ⌜ r ≡ noBits count from (has w) ⌝ }
 {
-    if count == 0 {
-        return true;
-    }
-    (w >> from) << (64 - count) == 0
+    count <= u64::trailing_zeros(w >> (from % 64))
 }
 
 // Whether a and b are the same at what is in w.
@@ -179,12 +176,15 @@ impl Bits {
         member(words[at], k % 64)
     }
 
-    // It and k.
+    // It and k. The first test never holds, and it tells the compiler which word is meant where there is one.
     pub fn add(self, k: u32) -> Bits
         requires { ⌜ k < width ⌝ }
         ensures { λ r. ⌜ ((j : ℕ) → has (whole r) j ≡ (has (whole self) j || eqb j k)) ⌝ }
     {
         let at = (k / 64) as usize;
+        if WORDS <= at {
+            return self;
+        }
         let mut words = self.words;
         words[at] = add(words[at], k % 64);
         Bits { words }
@@ -249,8 +249,8 @@ impl Bits {
         true
     }
 
-    // Whether none of the `count` numbers from `from` on is in it.
-    pub fn none_in(self, from: u32, count: u32) -> bool
+    // Whether none of the `count` numbers from `from` on is in it, word by word.
+    fn none_across(self, from: u32, count: u32) -> bool
         requires { ⌜ from + count ≤ width ⌝ }
         ensures { λ r. ⌜ r ≡ noBits count from (has (whole self)) ⌝ }
     {
@@ -266,6 +266,18 @@ impl Bits {
             i += 1;
         }
         true
+    }
+
+    // Whether none of the `count` numbers from `from` on is in it. Where all of them are in the lowest word, that one alone is asked.
+    pub fn none_in(self, from: u32, count: u32) -> bool
+        requires { ⌜ from + count ≤ width ⌝ }
+        ensures { λ r. ⌜ r ≡ noBits count from (has (whole self)) ⌝ }
+    {
+        if 64 < from + count {
+            return self.none_across(from, count);
+        }
+        let words = self.words;
+        none_in(words[0], from, count)
     }
 
     // Whether a and b are the same at what is in it.

@@ -1,121 +1,33 @@
--- Word by word, each asked for what of the numbers it has.
-use borrow.Author.Needs.{needs}
-use Prim.Native.Nat.{ℕ, _+_, _*_, _-_, _<_, _≤_, min}
-use mathlib.Core.Path.{_≡_, refl, sym, ap, _∙_}
-use native.Mathlib.Omega.{arith}
-use lib.ListN.{length, getD}
+-- The lowest word's bits are the set's.
+use mathlib.Core.Path.{refl, _∙_}
 use Rattle.bits.specs.declared.Bits.{Bits}
-use mathlib.Core.Bool.{true, false}
-use Rattle.number.proofs.Bools.{not-on, not-off}
-use Rattle.bits.specs.Bits.{has, noBits, words, width, whole}
 use Rattle.bits.proofs.Whole.{Proper, fits}
-use Rattle.bits.proofs.Making.{Off, off-none, bits-more, bits-stop, bits-all}
+use Rattle.bits.proofs.Making.{bits-within}
+use borrow.Author.Needs.{needs}
 use Rattle.bits.proofs.Bits.none_in.Statement.{statement}
 use Rattle.bits.proofs.Bits.none_in.Tie as tie
 
-abbrev Inv-loop : tie.InvT-loop
-Inv-loop a n ws i₀ i = (i ≤ words) × Off (whole (record { words = ws })) a (a + n) i
+add-if1 : tie.Need-add-if1
+add-if1 c = search needs
 
-abbrev μ-loop : tie.MeasureT-loop
-μ-loop a n ws i₀ i = words - i
+none-across-requires : tie.Need-none-across-requires
+none-across-requires c κs = search needs
 
-loop-holds : tie.Need-loop-holds Inv-loop μ-loop
-loop-holds c = (search needs, off-none _ _ _)
+returns : tie.Need-returns
+returns c = c .none-across .ensures
 
-cast-base : tie.Need-cast-base Inv-loop μ-loop
-cast-base c = search needs
-
-mul-base : tie.Need-mul-base Inv-loop μ-loop
-mul-base c = search needs
-
-less-requires : tie.Need-less-requires Inv-loop μ-loop
-less-requires c κs = search needs
-
-at-most-64-requires : tie.Need-at-most-64-requires Inv-loop μ-loop
-at-most-64-requires c κs = search needs
-
-add-less : tie.Need-add-less Inv-loop μ-loop
-add-less c = search needs
-
-less-requires-2 : tie.Need-less-requires-2 Inv-loop μ-loop
-less-requires-2 c κs = search needs
-
-at-most-64-requires-2 : tie.Need-at-most-64-requires-2 Inv-loop μ-loop
-at-most-64-requires-2 c κs = search needs
-
-mul-none-in : tie.Need-mul-none-in Inv-loop μ-loop
-mul-none-in c = search needs
-
-array-read-none-in : tie.Need-array-read-none-in Inv-loop μ-loop
+array-read-none-in : tie.Need-array-read-none-in
 array-read-none-in c = search needs
 
-sub-none-in : tie.Need-sub-none-in Inv-loop μ-loop
-sub-none-in c = search needs
-
-none-in-requires : tie.Need-none-in-requires Inv-loop μ-loop
+none-in-requires : tie.Need-none-in-requires
 none-in-requires c κs = search needs
 
-returns : tie.Need-returns Inv-loop μ-loop
-returns c =
-    let asked = c .before in
-    let l = asked .before .before .before .before .before .before in
-    let a = l .before .before .args in
-    let s : Bits = a .self in
-    let i : ℕ = l .loop .i in
-    let first = asked .before .before .before .at-most-64 .ensures ∙ ap (λ (m : ℕ). min m 64) (asked .before .before .before .before .less .ensures) in
-    let past = asked .before .at-most-642 .ensures ∙ ap (λ (m : ℕ). min m 64) (asked .before .before .less2 .ensures) in
-    let proper : Proper (s .words) = record { long = search needs; small = λ p. fits (search needs) } in
-    let answer : asked .none-in .result ≡ noBits (min (a .from + a .count - 64 * i) 64 - min (a .from - 64 * i) 64) (min (a .from - 64 * i) 64) (has (getD (s .words) i 0)) =
-    asked .none-in .ensures ∙ rw (first, past) in
-    sym (bits-stop {s = s} proper i (a .from) (a .count) (sym answer ∙ not-on _ (c .if1 .taken)))
-
-add-i : tie.Need-add-i Inv-loop μ-loop
-add-i c = search needs
-
-loop-less : tie.Need-loop-less Inv-loop μ-loop
-loop-less c = search needs
-
-loop-again : tie.Need-loop-again Inv-loop μ-loop
-loop-again c =
-    let asked = c .before in
-    let l = asked .before .before .before .before .before .before in
-    let a = l .before .before .args in
-    let s : Bits = a .self in
-    let i : ℕ = l .loop .i in
-    let first = asked .before .before .before .at-most-64 .ensures ∙ ap (λ (m : ℕ). min m 64) (asked .before .before .before .before .less .ensures) in
-    let past = asked .before .at-most-642 .ensures ∙ ap (λ (m : ℕ). min m 64) (asked .before .before .less2 .ensures) in
-    let proper : Proper (s .words) = record { long = search needs; small = λ p. fits (search needs) } in
-    let answer : asked .none-in .result ≡ noBits (min (a .from + a .count - 64 * i) 64 - min (a .from - 64 * i) 64) (min (a .from - 64 * i) 64) (has (getD (s .words) i 0)) =
-    asked .none-in .ensures ∙ rw (first, past) in
-    (omega arith, bits-more {s = s} proper i (a .from) (a .count) (l .loop .inv .1) (sym answer ∙ not-off _ (c .if1 .left)))
-
-returns-2 : tie.Need-returns-2 Inv-loop μ-loop
+returns-2 : tie.Need-returns-2
 returns-2 c =
-    let l = c .before in
-    let a = l .before .before .args in
-    let all : l .loop .i ≡ words = omega arith in
-    sym (bits-all (whole (a .self)) (a .from) (a .count) (l .before .before .pre) (rw all at (l .loop .inv .1)))
+    let a = c .before .before .before .args in
+    let s : Bits = a .self in
+    let proper : Proper (s .words) = record { long = search needs; small = λ p. fits (search needs) } in
+    c .none-in .ensures ∙ bits-within {s = s} proper 0 (a .from) (a .count) refl (c .before .before .if1 .left)
 
 pub none-in-spec : {M : Type 1} → statement M
-none-in-spec =
-    tie.close
-    (tie.spec
-    Inv-loop
-    μ-loop
-    loop-holds
-    cast-base
-    mul-base
-    less-requires
-    at-most-64-requires
-    add-less
-    less-requires-2
-    at-most-64-requires-2
-    mul-none-in
-    array-read-none-in
-    sub-none-in
-    none-in-requires
-    returns
-    add-i
-    loop-less
-    loop-again
-    returns-2)
+none-in-spec = tie.close (tie.spec add-if1 none-across-requires returns array-read-none-in none-in-requires returns-2)
