@@ -72,7 +72,9 @@ module _ (n : ℕ) where
   pub bounded-parallel : (Kp Rp Kq Rq : Codes) → Bounded n Rp → Bounded n Rq
       → Bounded n (join (maxima Rp Rq) (join (when (Kq 0 || Rq 0) Rp) (when (Kp 0 || Rp 0) Rq)))
   bounded-parallel Kp Rp Kq Rq p q =
-      let alone = bounded-join (when (Kq 0 || Rq 0) Rp) (when (Kp 0 || Rp 0) Rq) (bounded-when (Kq 0 || Rq 0) Rp p) (bounded-when (Kp 0 || Rp 0) Rq q) in
+      let alone =
+      bounded-join (when (Kq 0 || Rq 0) Rp) (when (Kp 0 || Rp 0) Rq) (bounded-when (Kq 0 || Rq 0) Rp p)
+      (bounded-when (Kp 0 || Rp 0) Rq q) in
       bounded-join (maxima Rp Rq) (join (when (Kq 0 || Rq 0) Rp) (when (Kp 0 || Rp 0) Rq)) (bounded-maxima Rp Rq p q) alone
 
 -- where no exit's level is above 9, no code is
@@ -97,7 +99,8 @@ R-low (leaf (Halt h)) l = bounded-same maxCodes 1 (omega arith)
 R-low (leaf (Emit s)) l = bounded-empty maxCodes
 R-low (leaf (Exit k)) l = bounded-empty maxCodes
 R-low (two Sequence p q) l =
-    bounded-join maxCodes (replaced (R p) (K q)) (R q) (bounded-replaced maxCodes (R p) (K q) (R-low p (l .0)) (K-low q (l .1))) (R-low q (l .1))
+    bounded-join maxCodes (replaced (R p) (K q)) (R q) (bounded-replaced maxCodes (R p) (K q) (R-low p (l .0)) (K-low q (l .1)))
+    (R-low q (l .1))
 R-low (one Loop p) l = bounded-replaced maxCodes (R p) (less0 (K p)) (R-low p l) (bounded-less0 maxCodes (K p) (K-low p l))
 R-low (two (Present s) p q) l = bounded-join maxCodes (R p) (R q) (R-low p (l .0)) (R-low q (l .1))
 R-low (one (Watching s) p) l = bounded-when maxCodes (hasHalts p) (with0 (R p)) (bounded-with0 maxCodes (R p) (omega arith) (R-low p l))
@@ -130,7 +133,8 @@ R-bound d (leaf (Exit k)) x = bounded-empty (2 + d)
 R-bound d (two Sequence p q) x =
     bounded-join (2 + d) (replaced (R p) (K q)) (R q)
     (bounded-replaced (2 + d) (R p) (K q) (R-bound d p (x .0)) (K-bound d q (x .1))) (R-bound d q (x .1))
-R-bound d (one Loop p) x = bounded-replaced (2 + d) (R p) (less0 (K p)) (R-bound d p (x .1)) (bounded-less0 (2 + d) (K p) (K-bound d p (x .1)))
+R-bound d (one Loop p) x =
+    bounded-replaced (2 + d) (R p) (less0 (K p)) (R-bound d p (x .1)) (bounded-less0 (2 + d) (K p) (K-bound d p (x .1)))
 R-bound d (two (Present s) p q) x = bounded-join (2 + d) (R p) (R q) (R-bound d p (x .0)) (R-bound d q (x .1))
 R-bound d (one (Watching s) p) x =
     bounded-when (2 + d) (hasHalts p) (with0 (R p)) (bounded-with0 (2 + d) (R p) (omega arith) (R-bound d p (x .1)))
@@ -189,7 +193,8 @@ R-none (one Loop p) h zero = rw (R-none p h 0)
 R-none (one Loop p) h (suc j) = rw (R-none p h 0, R-none p h (suc j))
 R-none (two (Present s) p q) h j = rw (R-none p (omega arith) j, R-none q (omega arith) j)
 R-none (one (Watching s) p) h j = rw (halts-counted p, h)
-R-none (two Parallel p q) h j = rw (R-none p (omega arith) j, R-none q (omega arith) j, and-false (K q 0 || R q 0), and-false (K p 0 || R p 0))
+R-none (two Parallel p q) h j =
+    rw (R-none p (omega arith) j, R-none q (omega arith) j, and-false (K q 0 || R q 0), and-false (K p 0 || R p 0))
 R-none (one Trap p) h zero = rw (R-none p h 0, R-none p h 2)
 R-none (one Trap p) h (suc zero) = R-none p h 1
 R-none (one Trap p) h (suc (suc j)) = R-none p h (suc (suc (suc j)))

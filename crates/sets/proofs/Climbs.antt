@@ -1,5 +1,5 @@
--- TWICE from the root down finds what the climbs find: at each statement, a climb that passes it meets F where the codes that it comes with meet
--- those that lead to F.
+-- TWICE from the root down finds what the climbs find: at each statement, a climb that passes it meets F where the codes that it comes
+-- with meet those that lead to F.
 use mathlib.Core.Path.{_≡_, refl, sym, _∙_}
 use mathlib.Core.Bool.{Bool, true, false, _&&_, _||_, and-false, or-false}
 use mathlib.Core.List.{List, [], _∷_, _++_, map}
@@ -20,9 +20,11 @@ use Rattle.sets.specs.Codes.{Codes, empty, join, when, upto, maxima, rep
 use Rattle.sets.specs.Static.{K, R}
 use Rattle.sets.specs.Faults.{orElse, Climb, through, looped, besides, climbs, firstFault, twice}
 use Rattle.sets.specs.Words.{Low}
-use Rattle.sets.specs.Leads.{some, both, meet, downto, atLeast, leadsSequence, leadsTrap, leadsParallel, leadsOne, leadsLeft, leadsRight, firstLed}
+use Rattle.sets.specs.Leads.{some, both, meet, downto, atLeast, leadsSequence, leadsTrap, leadsParallel, leadsOne, leadsLeft}
+use Rattle.sets.specs.Leads.{leadsRight, firstLed}
 use Rattle.number.proofs.Bools.{taut}
-use Rattle.sets.proofs.Bounds.{Bounded, bounded-join, bounded-when, bounded-maxima, bounded-replaced, bounded-more, bounded-caught, K-low, R-low}
+use Rattle.sets.proofs.Bounds.{Bounded, bounded-join, bounded-when, bounded-maxima, bounded-replaced, bounded-more}
+use Rattle.sets.proofs.Bounds.{bounded-caught, K-low, R-low}
 
 -- Some code below n: of sets that agree there, of a join, of a set that is there only where b holds, of one without the code n.
 some-alike : (n : ℕ) (A B : Codes) → ((j : ℕ) → j < n → A j ≡ B j) → some n A ≡ some n B
@@ -34,7 +36,8 @@ some-alike (suc n) A B same =
 some-or : (n : ℕ) (A B : Codes) → some n (λ j. A j || B j) ≡ (some n A || some n B)
 unfolding some
 some-or zero A B = refl
-some-or (suc n) A B = rw (some-or n (λ j. A (suc j)) (λ j. B (suc j))) (regroup (A 0) (B 0) (some n (λ j. A (suc j))) (some n (λ j. B (suc j))))
+some-or (suc n) A B =
+    rw (some-or n (λ j. A (suc j)) (λ j. B (suc j))) (regroup (A 0) (B 0) (some n (λ j. A (suc j))) (some n (λ j. B (suc j))))
   where
     regroup : (a b x y : Bool) → ((a || b) || (x || y)) ≡ ((a || x) || (b || y))
     regroup = taut 4 0 _ _ _ tt
@@ -120,7 +123,8 @@ trap-climb C F low =
     let Y : Codes = λ j. C (suc (suc (suc j))) && (ltb (suc (suc (suc j))) maxCodes && F (suc (suc j))) in
     let n : ℕ = maxCodes - 3 in
     let last : X n ≡ false = rw (low maxCodes (omega arith)) in
-    let rest : some (suc n) X ≡ some n Y = some-last n X last ∙ some-alike n X Y (λ j h. rw (lt-ltb (suc (suc (suc j))) maxCodes (omega arith))) in
+    let rest : some (suc n) X ≡ some n Y =
+    some-last n X last ∙ some-alike n X Y (λ j h. rw (lt-ltb (suc (suc (suc j))) maxCodes (omega arith))) in
     rw rest (regroup (C 0) (C 1) (C 2) (F 0) (F 1) (some n Y))
   where
     regroup : (a b c f g x : Bool) → (((a || c) && f) || ((b && g) || x)) ≡ ((a && f) || ((b && g) || ((c && f) || x)))
@@ -144,11 +148,13 @@ below C R F =
     turn = taut 3 0 _ _ _ tt
 
 -- "A parallel takes maxima of C with the sibling's R, and with 0 if the sibling has 0 in K or R."
-parallel-climb : (ended : Bool) (C R F : Codes) → meet maxCodes (join (maxima C R) (when ended C)) F ≡ meet maxCodes C (leadsParallel ended R F)
+parallel-climb : (ended : Bool) (C R F : Codes)
+    → meet maxCodes (join (maxima C R) (when ended C)) F ≡ meet maxCodes C (leadsParallel ended R F)
 parallel-climb ended C R F =
     let up : Codes = atLeast F R in
     let down : Codes = downto maxCodes (both R F) in
-    let climbed : meet maxCodes (join (maxima C R) (when ended C)) F ≡ ((meet maxCodes up C || meet maxCodes down C) || (ended && meet maxCodes F C)) =
+    let climbed : meet maxCodes (join (maxima C R) (when ended C)) F
+    ≡ ((meet maxCodes up C || meet maxCodes down C) || (ended && meet maxCodes F C)) =
     meet-join maxCodes (maxima C R) (when ended C) F
     ∙ (λ i. (meet-join maxCodes (atLeast C R) (atLeast R C) F ∙ (λ j. above C R F j || below C R F j)) i || meet-when maxCodes ended C F i)
     ∙ (λ i. (meet maxCodes up C || meet maxCodes down C) || (ended && meet-flip maxCodes C F i)) in
@@ -191,7 +197,8 @@ first-append F [] ys = refl
 first-append F (c ∷ cs) ys = rw (first-append F cs ys) (go (c .fault || meet maxCodes (c .codes) F))
   where
     go : (b : Bool)
-        → pick b (At (c .at)) (orElse (firstMeeting F cs) (firstMeeting F ys)) ≡ orElse (pick b (At (c .at)) (firstMeeting F cs)) (firstMeeting F ys)
+        → pick b (At (c .at)) (orElse (firstMeeting F cs) (firstMeeting F ys))
+        ≡ orElse (pick b (At (c .at)) (firstMeeting F cs)) (firstMeeting F ys)
     go true = refl
     go false = refl
 
@@ -214,7 +221,8 @@ low-looped (c ∷ cs) low = (low .0, low-looped cs (low .1))
 
 besides-low : (q : Stmt) → Low q → (C : Codes) → Bounded maxCodes C → Bounded maxCodes (besides q C)
 besides-low q low C c =
-    bounded-join maxCodes (maxima C (R q)) (when (K q 0 || R q 0) C) (bounded-maxima maxCodes C (R q) c (R-low q low)) (bounded-when maxCodes (K q 0 || R q 0) C c)
+    bounded-join maxCodes (maxima C (R q)) (when (K q 0 || R q 0) C) (bounded-maxima maxCodes C (R q) c (R-low q low))
+    (bounded-when maxCodes (K q 0 || R q 0) C c)
 
 caught-low : (C : Codes) → Bounded maxCodes C → Bounded maxCodes (caughtCodes C)
 caught-low C c = bounded-caught maxCodes C (omega arith) (bounded-more (suc maxCodes) C (omega arith) c)
@@ -273,8 +281,11 @@ led-climbs F n (two Parallel p q) low =
     let side : (v : Stmt) (C : Codes) → Bounded maxCodes C → meet maxCodes (besides v C) F ≡ meet maxCodes C (G v) =
     λ v C c. parallel-climb (K v 0 || R v 0) C (R v) F in
     let left = led-climbs (G q) n₁ p (low .0) ∙ sym (first-through (besides q) F (G q) (side q) (climbs n₁ p) (climbs-low n₁ p (low .0))) in
-    let right = led-climbs (G p) n₂ q (low .1) ∙ sym (first-through (besides p) F (G p) (side p) (climbs n₂ q) (climbs-low n₂ q (low .1))) in
-    let rest = (λ i. orElse (left i) (right i)) ∙ sym (first-append F (map (through (besides q)) (climbs n₁ p)) (map (through (besides p)) (climbs n₂ q))) in
+    let right =
+    led-climbs (G p) n₂ q (low .1) ∙ sym (first-through (besides p) F (G p) (side p) (climbs n₂ q) (climbs-low n₂ q (low .1))) in
+    let rest =
+    (λ i. orElse (left i) (right i))
+    ∙ sym (first-append F (map (through (besides q)) (climbs n₁ p)) (map (through (besides p)) (climbs n₂ q))) in
     λ i. pick (meet maxCodes (R (two Parallel p q)) F) (At n) (rest i)
 
 -- with no code to meet, that is the first at fault

@@ -72,7 +72,10 @@ entry-means e t low is =
     let k : ℕ = wordOf maxCodes (K t) in
     let r : ℕ = wordOf maxCodes (R t) in
     let parts = two-parts k r (word-small maxCodes (K t)) (word-small maxCodes (R t)) in
-    record { starts = rw (is, parts .0) (has-word maxCodes (K t) (K-low t low)); resumes = rw (is, parts .1) (has-word maxCodes (R t) (R-low t low)) }
+    record {
+      starts = rw (is, parts .0) (has-word maxCodes (K t) (K-low t low));
+      resumes = rw (is, parts .1) (has-word maxCodes (R t) (R-low t low));
+    }
 
 -- filling changes nothing before the statement, nothing past it, nor how many entries there are
 pub length-filled : (statics : List ℕ) (n : StmtNo) (t : Stmt) → length (filled statics n t) ≡ length statics
@@ -94,7 +97,8 @@ filled-before statics n (two b p q) j h =
     getD-set-other (filled statics₁ (further n (1 + size p)) q) (ofStmt n) j _ 0 (omega arith)
     ∙ filled-before statics₁ (further n (1 + size p)) q j (omega arith) ∙ filled-before statics (further n 1) p j (omega arith)
 
-pub filled-past : (statics : List ℕ) (n : StmtNo) (t : Stmt) (j : ℕ) → ofStmt n + size t ≤ j → getD (filled statics n t) j 0 ≡ getD statics j 0
+pub filled-past : (statics : List ℕ) (n : StmtNo) (t : Stmt) (j : ℕ) → ofStmt n + size t ≤ j
+    → getD (filled statics n t) j 0 ≡ getD statics j 0
 unfolding filled size
 filled-past statics n (leaf l) j h = getD-set-other statics (ofStmt n) j _ 0 (omega arith)
 filled-past statics n (one u p) j h =
@@ -137,9 +141,11 @@ kept-filled statics n (one u p) room =
     let statics₁ : List ℕ = filled statics n₁ p in
     let len₁ : length statics₁ ≡ length statics = length-filled statics n₁ p in
     let e : ℕ = entryOf (one u p) in
-    let after : Agree statics₁ (set statics₁ (ofStmt n) e) n₁ (size p) = λ j x y. getD-set-other statics₁ (ofStmt n) j e 0 (omega arith) in (
+    let after : Agree statics₁ (set statics₁ (ofStmt n) e) n₁ (size p) =
+    λ j x y. getD-set-other statics₁ (ofStmt n) j e 0 (omega arith) in (
       entered-last statics₁ n (one u p) (omega arith),
-      kept-agree statics₁ (set statics₁ (ofStmt n) e) n₁ p (length-set statics₁ (ofStmt n) e) after (kept-filled statics n₁ p (omega arith)),
+      kept-agree statics₁ (set statics₁ (ofStmt n) e) n₁ p (length-set statics₁ (ofStmt n) e) after
+          (kept-filled statics n₁ p (omega arith)),
     )
 kept-filled statics n (two b p q) room =
     let n₁ : StmtNo = further n 1 in
@@ -151,7 +157,8 @@ kept-filled statics n (two b p q) room =
     let len₁ : length statics₁ ≡ length statics = length-filled statics n₁ p in
     let len₂ : length statics₂ ≡ length statics₁ = length-filled statics₁ n₂ q in
     let len₃ : length statics₃ ≡ length statics₂ = length-set statics₂ (ofStmt n) e in
-    let same : (j : ℕ) → ofStmt n < j → getD statics₃ j 0 ≡ getD statics₂ j 0 = λ j x. getD-set-other statics₂ (ofStmt n) j e 0 (omega arith) in
+    let same : (j : ℕ) → ofStmt n < j → getD statics₃ j 0 ≡ getD statics₂ j 0 =
+    λ j x. getD-set-other statics₂ (ofStmt n) j e 0 (omega arith) in
     let after₁ : Agree statics₁ statics₃ n₁ (size p) = λ j x y. same j (omega arith) ∙ filled-before statics₁ n₂ q j (omega arith) in
     let after₂ : Agree statics₂ statics₃ n₂ (size q) = λ j x y. same j (omega arith) in (
       entered-last statics₂ n (two b p q) (omega arith),

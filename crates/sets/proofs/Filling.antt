@@ -39,14 +39,17 @@ module _ {rows : List ℕ} {n : StmtNo} (s : Stands rows n) where
       let own : halts ≡ hasHalts (s .stmt) = some ∙ halts-row rows n (s .first) (s .stmt) (s .holds) in
       rw (k .is) (made (k .part .stmt) (went (k .part) .answer) (rw (k .is) at own))
 
-  pub two-means : {b : Binary} {p q r : Both} {before mid after : List ℕ} → rowAt rows n .head ≡ Two b → Went rows (further n 1) p before mid
-      → Went rows (rowAt rows (further n 1) .end) q mid after → ((t v : Stmt) → Means p t → Means q v → Means r (two b t v)) → Means r (s .stmt)
+  pub two-means : {b : Binary} {p q r : Both} {before mid after : List ℕ} → rowAt rows n .head ≡ Two b
+      → Went rows (further n 1) p before mid
+      → Went rows (rowAt rows (further n 1) .end) q mid after → ((t v : Stmt) → Means p t → Means q v → Means r (two b t v))
+      → Means r (s .stmt)
   two-means e first second made =
       let k : TwoParts s _ = stands-two s e in
       rw (k .is) (made (k .left .stmt) (k .right .stmt) (first (k .left) .answer) (second (k .right) .answer))
 
   -- and what the walk leaves, once its entry was written
-  pub leaf-filled : {l : Leaf} {b r : Both} {before after : List ℕ} → rowAt rows n .head ≡ Zero l → Means b (leaf l) → Wrote n b r before after
+  pub leaf-filled : {l : Leaf} {b r : Both} {before after : List ℕ} → rowAt rows n .head ≡ Zero l → Means b (leaf l)
+      → Wrote n b r before after
       → Filled n (s .stmt) r before after
   unfolding filled
   leaf-filled {b = b} e m w =
@@ -57,7 +60,8 @@ module _ {rows : List ℕ} {n : StmtNo} (s : Stands rows n) where
         column = w .entry ∙ rw (entry-is b (s .stmt) (s .low) own, is);
       }
 
-  pub one-filled : {u : Unary} {p b r : Both} {before mid after : List ℕ} → rowAt rows n .head ≡ One u → Went rows (further n 1) p before mid
+  pub one-filled : {u : Unary} {p b r : Both} {before mid after : List ℕ} → rowAt rows n .head ≡ One u
+      → Went rows (further n 1) p before mid
       → Means b (s .stmt) → Wrote n b r mid after → Filled n (s .stmt) r before after
   unfolding filled
   one-filled {b = b} {before = before} e went own w =

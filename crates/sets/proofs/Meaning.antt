@@ -83,7 +83,8 @@ module _ (p q : Both) (t v : Stmt) (left : Means p t) (right : Means q v) where
         resumes = fun-ext resumes ∙ (λ i. join (left .resumes i) (right .resumes i));
       }
 
-  pub means-parallel : {k r : ℕ} → has k ≡ maxima (has (p .k)) (has (q .k)) → has r ≡ R (two Parallel t v) → Means (bothOf k r) (two Parallel t v)
+  pub means-parallel : {k r : ℕ} → has k ≡ maxima (has (p .k)) (has (q .k)) → has r ≡ R (two Parallel t v)
+      → Means (bothOf k r) (two Parallel t v)
   unfolding K
   means-parallel starts resumes = record { starts = starts ∙ (λ i. maxima (left .starts i) (right .starts i)); resumes = resumes }
 
@@ -97,5 +98,6 @@ module _ (p q : Both) (t v : Stmt) (left : Means p t) (right : Means q v) where
       let f-is : f ≡ (K t 0 || R t 0) = other ∙ (λ i. left .starts i 0 || left .resumes i 0) in
       let first : X ≡ when (K v 0 || R v 0) (R t) = x-is ∙ (λ i. when (e-is i) (left .resumes i)) in
       let second : Y ≡ when (K t 0 || R t 0) (R v) = y-is ∙ (λ i. when (f-is i) (right .resumes i)) in
-      let sides : Alone ≡ join (when (K v 0 || R v 0) (R t)) (when (K t 0 || R t 0) (R v)) = fun-ext alone-is ∙ (λ i. join (first i) (second i)) in
+      let sides : Alone ≡ join (when (K v 0 || R v 0) (R t)) (when (K t 0 || R t 0) (R v)) =
+      fun-ext alone-is ∙ (λ i. join (first i) (second i)) in
       fun-ext all ∙ (λ i. join ((top-is ∙ (λ j. maxima (left .resumes j) (right .resumes j))) i) (sides i))

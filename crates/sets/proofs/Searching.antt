@@ -59,7 +59,8 @@ unfolding firstLed headOf pick
 led-one-part F n u p e = ap (λ (b : Bool). pick b (At n) (firstLed (leadsOne u F) (further n 1) p)) e
 
 led-two-parts : (F : Codes) (n : StmtNo) (b : Binary) (p q : Stmt) → Led F (two b p q) ≡ false
-    → firstLed F n (two b p q) ≡ orElse (firstLed (leadsLeft b q F) (further n 1) p) (firstLed (leadsRight b p F) (further n (1 + size p)) q)
+    → firstLed F n (two b p q)
+    ≡ orElse (firstLed (leadsLeft b q F) (further n 1) p) (firstLed (leadsRight b p F) (further n (1 + size p)) q)
 unfolding firstLed headOf pick
 led-two-parts F n b p q e =
     let rest : Found = orElse (firstLed (leadsLeft b q F) (further n 1) p) (firstLed (leadsRight b p F) (further n (1 + size p)) q) in
@@ -97,7 +98,8 @@ module _ {rows : List ℕ} (statics : List ℕ) {n : StmtNo} (s : Stands rows n)
       let m = reads .means (k .part .stmt) (k .part .low) (kept-own statics (further n 1) (k .part .stmt) (kept-one k)) in
       sym (is ∙ (λ i. isLoop u && m .starts i 0))
 
-  pub instant-here : {u : Unary} {b : Both} {r : Bool} → rowAt rows n .head ≡ One u → Reads statics (further n 1) b → r ≡ (isLoop u && has (b .k) 0)
+  pub instant-here : {u : Unary} {b : Both} {r : Bool} → rowAt rows n .head ≡ One u → Reads statics (further n 1) b
+      → r ≡ (isLoop u && has (b .k) 0)
       → r ≡ true → At n ≡ instant n (s .stmt)
   unfolding pick
   instant-here {u} e reads is yes-it-is =
@@ -124,7 +126,8 @@ module _ {rows : List ℕ} (statics : List ℕ) {n : StmtNo} (s : Stands rows n)
       let second : Found = instant (further n (1 + size (k .left .stmt))) (k .right .stmt) in
       ap (instant n) (k .is) ∙ ap (λ (x : Found). orElse x second) (sym (left (k .left) (kept-left k)))
 
-  pub instant-left : {b : Binary} {m : StmtNo} {f : Found} → rowAt rows n .head ≡ Two b → Sought instant rows statics (further n 1) f → f ≡ At m
+  pub instant-left : {b : Binary} {m : StmtNo} {f : Found} → rowAt rows n .head ≡ Two b → Sought instant rows statics (further n 1) f
+      → f ≡ At m
       → At m ≡ instant n (s .stmt)
   unfolding orElse
   instant-left {b} e left is =
@@ -142,7 +145,8 @@ module _ {rows : List ℕ} (statics : List ℕ) {n : StmtNo} (s : Stands rows n)
       ∙ sym (instant-two k left ∙ ap (λ (x : Found). orElse x second) is)
 
   -- TWICE, going down with F
-  module _ (F : Codes) {own : Both} {r : Bool} (reads : Reads statics n own) (test : r ≡ (isX (rowAt rows n .head) && meet maxCodes (has (own .r)) F)) where
+  module _ (F : Codes) {own : Both} {r : Bool} (reads : Reads statics n own)
+      (test : r ≡ (isX (rowAt rows n .head) && meet maxCodes (has (own .r)) F)) where
     led-test : r ≡ Led F (s .stmt)
     led-test = test ∙ (λ i. isX (head-of rows n (s .first) (s .stmt) (s .holds) i) && meet maxCodes (own-means reads .resumes i) F)
 
@@ -161,16 +165,19 @@ module _ {rows : List ℕ} (statics : List ℕ) {n : StmtNo} (s : Stands rows n)
         rest (k .part) (kept-one k) ∙ ap (λ (A : Codes). firstLed A (further n 1) p) leads
         ∙ sym (ap (firstLed F n) (k .is) ∙ led-one-part F n u p (ap (Led F) (sym (k .is)) ∙ sym led-test ∙ no-x))
 
-    led-two : {b : Binary} {G : Codes} {f : Found} {q : Both} (k : TwoParts s b) → r ≡ false → Reads statics (rowAt rows (further n 1) .end) q
+    led-two : {b : Binary} {G : Codes} {f : Found} {q : Both} (k : TwoParts s b) → r ≡ false
+        → Reads statics (rowAt rows (further n 1) .end) q
         → ((v : Stmt) → Means q v → G ≡ leadsLeft b v F) → Sought (firstLed G) rows statics (further n 1) f
-        → firstLed F n (s .stmt) ≡ orElse f (firstLed (leadsRight b (k .left .stmt) F) (further n (1 + size (k .left .stmt))) (k .right .stmt))
+        → firstLed F n (s .stmt)
+        ≡ orElse f (firstLed (leadsRight b (k .left .stmt) F) (further n (1 + size (k .left .stmt))) (k .right .stmt))
     led-two {b} {q = q} k no-x second leads left =
         let p : Stmt = k .left .stmt in
         let v : Stmt = k .right .stmt in
         let m : Means q v = second .means v (k .right .low) (kept-own statics (rowAt rows (further n 1) .end) v (kept-right k)) in
         let other : Found = firstLed (leadsRight b p F) (further n (1 + size p)) v in
+        let own = left (k .left) (kept-left k) ∙ ap (λ (A : Codes). firstLed A (further n 1) p) (leads v m) in
         ap (firstLed F n) (k .is) ∙ led-two-parts F n b p v (ap (Led F) (sym (k .is)) ∙ sym led-test ∙ no-x)
-        ∙ sym (ap (λ (x : Found). orElse x other) (left (k .left) (kept-left k) ∙ ap (λ (A : Codes). firstLed A (further n 1) p) (leads v m)))
+        ∙ sym (ap (λ (x : Found). orElse x other) own)
 
     pub led-left : {b : Binary} {G : Codes} {f : Found} {q : Both} {m : StmtNo} → r ≡ false → rowAt rows n .head ≡ Two b
         → Reads statics (rowAt rows (further n 1) .end) q → ((v : Stmt) → Means q v → G ≡ leadsLeft b v F)
@@ -198,5 +205,7 @@ module _ {rows : List ℕ} (statics : List ℕ) {n : StmtNo} (s : Stands rows n)
         ∙ sym (led-two k no-x second leads left ∙ ap (λ (x : Found). orElse x other) is)
 
 -- with nothing to lead to but a loop, that is TWICE
-pub led-empty : (rows statics : List ℕ) (n : StmtNo) (r : Found) → Sought (firstLed (has 0)) rows statics n r → Sought twice rows statics n r
-led-empty rows statics n r sought s kept = sought s kept ∙ ap (λ (F : Codes). firstLed F n (s .stmt)) none-is ∙ led-twice n (s .stmt) (s .low)
+pub led-empty : (rows statics : List ℕ) (n : StmtNo) (r : Found) → Sought (firstLed (has 0)) rows statics n r
+    → Sought twice rows statics n r
+led-empty rows statics n r sought s kept =
+    sought s kept ∙ ap (λ (F : Codes). firstLed F n (s .stmt)) none-is ∙ led-twice n (s .stmt) (s .low)

@@ -3,10 +3,11 @@ use mathlib.Core.Path.{_≡_, sym, ap, _∙_}
 use mathlib.Core.List.{List}
 use Prim.Native.Nat.{ℕ, _+_, _<_, _≤_}
 use native.Mathlib.Omega.{arith}
+use lib.Dec.{ltb}
 use lib.ListN.{length}
 use Rattle.number.specs.declared.StmtNo.{StmtNo}
 use Rattle.number.specs.declared.HaltNo.{HaltNo}
-use Rattle.number.specs.Counts.{haltNo, stmtNo, ofStmt}
+use Rattle.number.specs.Counts.{haltNo, ofHalt, stmtNo, ofStmt}
 use Rattle.limits.specs.Limits.{maxStatements}
 use Rattle.sheet.specs.declared.Leaf.{Leaf}
 use Rattle.sheet.specs.declared.Unary.{Unary}
@@ -16,19 +17,22 @@ use Rattle.sheet.specs.declared.Row.{Row}
 use Rattle.sheet.specs.declared.Head.the-variants.{Zero, One, Two}
 use Rattle.sheet.specs.Stmt.{Stmt, leaf, one, two, size, haltCount}
 use Rattle.sheet.specs.Read.{further}
-use Rattle.sheet.specs.Rows.{rowAt, lay, haltsOn}
-use Rattle.sheet.specs.Form.{Proper}
+use Rattle.sheet.specs.Rows.{stmtSpan, rowAt, lay}
+use Rattle.sheet.specs.Form.{haltsOn, Proper}
 use Rattle.sheet.proofs.Notions.{proper-exits}
 use Rattle.sheet.proofs.Walk.{is-leaf, is-one, is-two, holds-second, within, few-numbers, holds-proper}
 use Rattle.sets.specs.Words.{LowLeaf, Low, Stands}
 use Rattle.sets.proofs.Bounds.{exits-low}
 
--- a row's head and its end, as the walks come by them
+-- a row's head, as the walks come by it
 pub head-is : {row row′ : Row} {h : Head} → row ≡ row′ → row .head ≡ h → row′ .head ≡ h
 head-is read is = ap (λ (r : Row). r .head) (sym read) ∙ is
 
-pub end-is : (rows : List ℕ) {row : Row} {m n : StmtNo} → row ≡ rowAt rows m → m ≡ n → row .end ≡ rowAt rows n .end
-end-is rows read is = ap (λ (r : Row). r .end) (read ∙ ap (rowAt rows) is)
+-- and how they ask whether there are halts
+pub halts-asked : {x y : ℕ} {row row′ : Row} → x ≡ ofHalt (row .first) → y ≡ ofHalt (row .past) → row ≡ row′
+    → ltb x y ≡ ltb (ofHalt (row′ .first)) (ofHalt (row′ .past))
+halts-asked first past read =
+    (λ i. ltb (first i) (past i)) ∙ (λ i. ltb (ofHalt (read i .first)) (ofHalt (read i .past)))
 
 -- what stands at row n, if its head says that it has one part, or two
 pub record OnePart {rows : List ℕ} {n : StmtNo} (s : Stands rows n) (u : Unary) : Type 0 where
@@ -46,7 +50,7 @@ module _ {rows : List ℕ} {n : StmtNo} (s : Stands rows n) where
   stands-within = within rows n (s .first) (s .stmt) (s .holds)
 
   -- its number fits in a row
-  pub stands-number : ofStmt n < 4096
+  pub stands-number : ofStmt n < stmtSpan
   stands-number = omega (arith, few-numbers rows n (s .first) (s .stmt) (s .holds))
 
   pub stands-leaf : {l : Leaf} → rowAt rows n .head ≡ Zero l → s .stmt ≡ leaf l
@@ -84,6 +88,7 @@ module _ {rows : List ℕ} {n : StmtNo} (s : Stands rows n) where
       omega arith
 
 -- a whole sheet stands in its rows
-pub stands-proper : (i o : ℕ) (rows : List ℕ) (t : Stmt) → Proper i o t → maxStatements ≤ length rows → Stands (lay rows (stmtNo 0) (haltNo 0) t) (stmtNo 0)
+pub stands-proper : (i o : ℕ) (rows : List ℕ) (t : Stmt) → Proper i o t → maxStatements ≤ length rows
+    → Stands (lay rows (stmtNo 0) (haltNo 0) t) (stmtNo 0)
 stands-proper i o rows t h room =
     record { first = haltNo 0; stmt = t; holds = holds-proper i o rows t h room; low = exits-low 0 t (omega arith) (proper-exits h) }

@@ -51,8 +51,8 @@ looped c = record { at = c .at; codes = c .codes; fault = c .fault || c .codes 0
 abbrev pub besides : Stmt → Codes → Codes
 besides q C = join (maxima C (R q)) (when (K q 0 || R q 0) C)
 
--- the climbs of the statement with the number n, in the order of their X: "As left of a sequence, 0 in C is replaced by K(right). .. A trap maps.
--- .. Others pass C on."
+-- the climbs of the statement with the number n, in the order of their X: "As left of a sequence, 0 in C is replaced by K(right). .. A
+-- trap maps. .. Others pass C on."
 unfoldable pub climbs : StmtNo → Stmt → List Climb
 unfolding K R size
 climbs n (leaf l) = []

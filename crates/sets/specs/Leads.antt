@@ -1,5 +1,6 @@
+-- Not to be believed: what the code keeps to; the proofs check it.
 -- TWICE from the root down: instead of climbing from each X with its codes, go down with the codes that lead to the fault from here up. The
--- climb of each code is its own, so the two find the same X.
+-- climb of each code is its own, so the two find the same X (`led-twice`).
 use mathlib.Core.Bool.{Bool, true, false, _&&_, _||_}
 use mathlib.Core.Path.{_≡_}
 use Prim.Native.Nat.{ℕ, zero, suc, _+_, _^_, _<_}
@@ -64,7 +65,8 @@ leadsTrap F (suc (suc (suc j))) = ltb (suc (suc (suc j))) maxCodes && F (suc (su
 abbrev pub leadsParallel : Bool → Codes → Codes → Codes
 leadsParallel ended R F = join (join (atLeast F R) (downto maxCodes (both R F))) (when ended F)
 
--- from the part of a statement with one part, and from the left and the right of one with two
+-- from the part of a statement with one part, and from the left and the right of one with two: what a climb makes of its codes at each
+-- statement, backwards, and nothing else of it, stands here
 unfoldable pub leadsOne : Unary → Codes → Codes
 leadsOne Loop F = with0 F
 leadsOne (Watching s) F = F

@@ -28,9 +28,10 @@ hasHalts (leaf (Exit k)) = false
 hasHalts (one u p) = hasHalts p
 hasHalts (two b p q) = hasHalts p || hasHalts q
 
--- "R: empty for a statement without halts; halt {1}; sequence R(p), with 0 replaced by K(q), and R(q); loop R(p), with 0 replaced by K(p) less 0;
--- present both; watching R(p) and 0; parallel the maxima of R(p) with R(q), also R(p) if q has 0 in K or R, and R(q) likewise; trap by its map;
--- signal R(p)." Where the parts have no halts their R is empty, and then so is what is made of them; watching alone adds to it, so it asks.
+-- "R: empty for a statement without halts; halt {1}; sequence R(p), with 0 replaced by K(q), and R(q); loop R(p), with 0 replaced by K(p)
+-- less 0; present both; watching R(p) and 0; parallel the maxima of R(p) with R(q), also R(p) if q has 0 in K or R, and R(q) likewise;
+-- trap by its map; signal R(p)." Where the parts have no halts their R is empty, and then so is what is made of them; watching alone adds
+-- to it, so it asks.
 unfoldable pub R : Stmt → Codes
 unfolding K hasHalts
 R (leaf Nothing) = empty

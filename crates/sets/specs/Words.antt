@@ -1,4 +1,6 @@
--- How the code keeps the sets: a set of codes is a word with the codes as its bits, and K and R of a statement make one entry of a column.
+-- Not to be believed: what the code keeps to; the proofs check it.
+-- How the code keeps the sets: a set of codes is a word with the codes as its bits, and K and R of a statement make one entry of a column,
+-- `statics`.
 use mathlib.Core.Path.{_≡_}
 use mathlib.Core.Bool.{Bool, true, false}
 use mathlib.Core.List.{List}

@@ -1,5 +1,5 @@
-// The static sets K and R of every statement, and the first statement at fault. A set of codes is a word with the codes as its bits; `statics` is the column of
-// all K and R.
+// The static sets K and R of every statement, and the first statement at fault. A set of codes is a word with the codes as its bits;
+// `statics` is the column of all K and R.
 use number::StmtNo;
 use sheet::Binary;
 use sheet::Head;
@@ -18,7 +18,8 @@ ghost use Rattle.sets.specs.Codes.{join, when, maxima, replaced, less0, 
 ghost use Rattle.sets.specs.Static.{K, R, hasHalts};
 ghost use Rattle.sets.specs.Faults.{instant, twice};
 ghost use Rattle.sets.specs.Words.{codeSpan, LowLeaf, Low, Stands, Entered, Kept, Means, Wrote, Filled, Reads};
-ghost use Rattle.sets.specs.Leads.{meet, UpTo, atLeast, leadsSequence, leadsTrap, leadsParallel, leadsOne, leadsLeft, leadsRight, isLoop, isX, firstLed};
+ghost use Rattle.sets.specs.Leads.{meet, UpTo, atLeast, leadsSequence, leadsTrap, leadsParallel, leadsOne, leadsLeft, leadsRight};
+ghost use Rattle.sets.specs.Leads.{isLoop, isX, firstLed};
 
 // A statement that is at fault, or that there is none.
 pub enum Found {
@@ -237,8 +238,7 @@ pub fn fill(rows: &[u64], statics: &mut [u64], n: StmtNo) -> Both
         }
         Head::Two(b) => {
             let p = fill(rows, statics, first);
-            let left = sheet::row_at(rows, first);
-            let q = fill(rows, statics, left.end);
+            let q = fill(rows, statics, sheet::second_part(rows, n));
             entered(statics, n, two_sets(b, p, q))
         }
     }
@@ -311,13 +311,10 @@ pub fn first_instant(rows: &[u64], statics: &[u64], n: StmtNo) -> Found
             }
             first_instant(rows, statics, first)
         }
-        Head::Two(_) => {
-            let left = sheet::row_at(rows, first);
-            match first_instant(rows, statics, first) {
-                Found::At(m) => Found::At(m),
-                Found::Clear => first_instant(rows, statics, left.end),
-            }
-        }
+        Head::Two(_) => match first_instant(rows, statics, first) {
+            Found::At(m) => Found::At(m),
+            Found::Clear => first_instant(rows, statics, sheet::second_part(rows, n)),
+        },
     }
 }
 
@@ -348,6 +345,7 @@ fn leads_parallel(q: Both, f: u64) -> u64
     bits::join(with_other, only_if(ends(q), f))
 }
 
+// What leads on into each part, by the statement around it: all that the pass knows of the climb stands in these three.
 fn leads_one(u: Unary, f: u64) -> u64
     ensures { λ r. ⌜ has r ≡ leadsOne u (has f) ⌝ }
 {
@@ -370,6 +368,7 @@ fn leads_left(b: Binary, q: Both, f: u64) -> u64
     }
 }
 
+// Into the right of a sequence they lead on as they are: it has the codes of the whole.
 fn leads_right(b: Binary, p: Both, f: u64) -> u64
     requires { ⌜ p .r < codeSpan ⌝ }
     ensures { λ r. ⌜ ((t : Stmt) → Means p t → has r ≡ leadsRight b t (has f)) ⌝ }
@@ -428,13 +427,13 @@ fn first_led(rows: &[u64], statics: &[u64], n: StmtNo, f: u64) -> Found
         Head::Zero(_) => Found::Clear,
         Head::One(u) => first_led(rows, statics, first, leads_one(u, f)),
         Head::Two(b) => {
-            let left = sheet::row_at(rows, first);
-            let q = sets_of(statics, left.end);
+            let second = sheet::second_part(rows, n);
+            let q = sets_of(statics, second);
             match first_led(rows, statics, first, leads_left(b, q, f)) {
                 Found::At(m) => Found::At(m),
                 Found::Clear => {
                     let p = sets_of(statics, first);
-                    first_led(rows, statics, left.end, leads_right(b, p, f))
+                    first_led(rows, statics, second, leads_right(b, p, f))
                 }
             }
         }

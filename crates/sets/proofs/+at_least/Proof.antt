@@ -29,8 +29,7 @@ at-least-returns t c = (rw (c .if1 .taken) (least-none (c .before .args .a)), se
 
 at-least-returns-2 : (t : ℕ) → at-least-lts.Need-returns-2 (calls t) (at-least-at t) at-least.Post
 at-least-returns-2 t c =
-    let entry = c .before .before in
-    (least-all (entry .args .a) (entry .args .b) (c .if2 .taken), search needs)
+    (least-all (c .before .before .args .a) (c .before .before .args .b) (c .if2 .taken), search needs)
 
 at-least-at-least-requires : (t : ℕ) → at-least-lts.Need-at-least-requires (calls t) (at-least-at t) at-least.Post
 at-least-at-least-requires t c κs = search needs
@@ -40,8 +39,9 @@ at-least-mul-result t c = omega (arith, c .at-least .ensures .1)
 
 at-least-returns-3 : (t : ℕ) → at-least-lts.Need-returns-3 (calls t) (at-least-at t) at-least.Post
 at-least-returns-3 t c =
-    let entry = c .before .before .before in
-    (least-rest (entry .args .a) (entry .args .b) (c .at-least .result) (c .before .if2 .left) (c .at-least .ensures .0), omega (arith, c .at-least .ensures .1))
+    let at-start = c .before .before .before in
+    let half = c .at-least .ensures in
+    (least-rest (at-start .args .a) (at-start .args .b) (c .at-least .result) (c .before .if2 .left) (half .0), omega (arith, half .1))
 
 pub +at-least-spec : {M : Type 1} → statement M
 +at-least-spec =

@@ -46,8 +46,10 @@ up-to-common-add-result t c = omega (arith, c .before .up-to-common .ensures 63 
 
 up-to-common-returns-2 : (t : ℕ) → up-to-common-lts.Need-returns-2 (calls t) (up-to-common-at t) up-to-common.Post
 up-to-common-returns-2 t c =
-    let entry = c .before .before .before in
-    upto-low (entry .args .a) (entry .args .b) (c .before .up-to-common .result) (c .before .before .if1 .left) (c .if2 .taken) (c .before .up-to-common .ensures)
+    let at-if1 = c .before .before in
+    let at-start = at-if1 .before in
+    upto-low (at-start .args .a) (at-start .args .b) (c .before .up-to-common .result) (at-if1 .if1 .left) (c .if2 .taken)
+    (c .before .up-to-common .ensures)
 
 up-to-common-mul-result-2 : (t : ℕ) → up-to-common-lts.Need-mul-result-2 (calls t) (up-to-common-at t) up-to-common.Post
 up-to-common-mul-result-2 t c = omega (arith, c .before .up-to-common .ensures 63 (omega arith) .small)
@@ -57,8 +59,10 @@ up-to-common-add-result-2 t c = omega (arith, c .before .up-to-common .ensures 6
 
 up-to-common-returns-3 : (t : ℕ) → up-to-common-lts.Need-returns-3 (calls t) (up-to-common-at t) up-to-common.Post
 up-to-common-returns-3 t c =
-    let entry = c .before .before .before in
-    upto-rest (entry .args .a) (entry .args .b) (c .before .up-to-common .result) (c .before .before .if1 .left) (c .if2 .left) (c .before .up-to-common .ensures)
+    let at-if1 = c .before .before in
+    let at-start = at-if1 .before in
+    upto-rest (at-start .args .a) (at-start .args .b) (c .before .up-to-common .result) (at-if1 .if1 .left) (c .if2 .left)
+    (c .before .up-to-common .ensures)
 
 pub +up-to-common-spec : {M : Type 1} → statement M
 +up-to-common-spec = close μ-up-to-common λ t. up-to-common-lts.spec (

@@ -12,7 +12,10 @@ meets-requires : tie.Need-meets-requires
 meets-requires c κs = search needs
 
 returns : tie.Need-returns
-returns c = rw (sym (c .before .before .is-x .ensures) ∙ c .before .if1 .taken) (c .meets .ensures maxCodes (c .before .before .before .pre))
+returns c =
+    let at-is-x = c .before .before in
+    let at-start = at-is-x .before in
+    rw (sym (at-is-x .is-x .ensures) ∙ c .before .if1 .taken) (c .meets .ensures maxCodes (at-start .pre))
 
 returns-2 : tie.Need-returns-2
 returns-2 c = search needs

@@ -1,4 +1,5 @@
--- `leads_parallel` meets its contract: the codes of f from the other side's on, those up to a common one, and f where the other may stand ended.
+-- `leads_parallel` meets its contract: the codes of f from the other side's on, those up to a common one, and f where the other may stand
+-- ended.
 use Rattle.sets.proofs.Leading.{parallel-leads}
 use Rattle.bits.specs.Bits.{has}
 use Rattle.limits.specs.Limits.{maxCodes}
@@ -26,10 +27,14 @@ join-requires-2 c κs = search needs
 
 returns : tie.Need-returns
 returns c =
-    let entry = c .before .before .before .before .before .before in
-    let common = c .before .before .before .before .up-to-common .ensures maxCodes (entry .pre) .codes in
-    parallel-leads (has (entry .args .q .r)) (has (entry .args .f)) (c .before .before .before .before .before .at-least .ensures .0) common
-    (c .before .before .before .join .ensures) (c .before .before .ends .ensures) (c .before .only-if .ensures) (c .join2 .ensures)
+    let at-ends = c .before .before in
+    let at-join = at-ends .before in
+    let at-up-to-common = at-join .before in
+    let at-at-least = at-up-to-common .before in
+    let at-start = at-at-least .before in
+    let common = at-up-to-common .up-to-common .ensures maxCodes (at-start .pre) .codes in
+    parallel-leads (has (at-start .args .q .r)) (has (at-start .args .f)) (at-at-least .at-least .ensures .0) common
+    (at-join .join .ensures) (at-ends .ends .ensures) (c .before .only-if .ensures) (c .join2 .ensures)
 
 pub leads-parallel-spec : {M : Type 1} → statement M
 leads-parallel-spec =

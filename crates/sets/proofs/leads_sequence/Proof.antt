@@ -15,16 +15,20 @@ with-0-requires c κs = search needs
 
 returns : tie.Need-returns
 returns c =
-    let entry = c .before .before .before in
-    c .with-0 .ensures ∙ sequence-led (has (entry .args .k)) (has (entry .args .f)) (sym (c .before .before .meets .ensures maxCodes (entry .pre)) ∙ c .before .if1 .taken)
+    let at-meets = c .before .before in
+    let at-start = at-meets .before in
+    let met = sym (at-meets .meets .ensures maxCodes (at-start .pre)) ∙ c .before .if1 .taken in
+    c .with-0 .ensures ∙ sequence-led (has (at-start .args .k)) (has (at-start .args .f)) met
 
 without-0-requires : tie.Need-without-0-requires
 without-0-requires c κs = search needs
 
 returns-2 : tie.Need-returns-2
 returns-2 c =
-    let entry = c .before .before .before in
-    c .without-0 .ensures ∙ sequence-not (has (entry .args .k)) (has (entry .args .f)) (sym (c .before .before .meets .ensures maxCodes (entry .pre)) ∙ c .before .if1 .left)
+    let at-meets = c .before .before in
+    let at-start = at-meets .before in
+    let met = sym (at-meets .meets .ensures maxCodes (at-start .pre)) ∙ c .before .if1 .left in
+    c .without-0 .ensures ∙ sequence-not (has (at-start .args .k)) (has (at-start .args .f)) met
 
 pub leads-sequence-spec : {M : Type 1} → statement M
 leads-sequence-spec =

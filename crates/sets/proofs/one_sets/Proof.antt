@@ -35,16 +35,32 @@ enum-told-4 : tie.Need-enum-told-4
 enum-told-4 c = search needs
 
 returns : tie.Need-returns
-returns c = λ t part halts. rw (c .before .before .enum-told .given .1) (means-loop (c .before .before .before .before .args .p) t part (c .before .without-0 .ensures) (c .replace-0 .ensures))
+returns c =
+    let at-enum-told = c .before .before in
+    let at-start = at-enum-told .before .before in
+    λ t part halts.
+    rw (at-enum-told .enum-told .given .1) (means-loop (at-start .args .p) t part (c .before .without-0 .ensures) (c .replace-0 .ensures))
 
 returns-2 : tie.Need-returns-2
-returns-2 c = λ t part halts. rw (c .before .before .enum-told2 .given .1) (means-watching (c .before .before .before .before .args .p) t part _ halts (c .before .with-0 .ensures) (c .only-if .ensures))
+returns-2 c =
+    let at-enum-told2 = c .before .before in
+    let at-start = at-enum-told2 .before .before in
+    λ t part halts.
+    rw (at-enum-told2 .enum-told2 .given .1)
+    (means-watching (at-start .args .p) t part _ halts (c .before .with-0 .ensures) (c .only-if .ensures))
 
 returns-3 : tie.Need-returns-3
-returns-3 c = λ t part halts. rw (c .before .before .enum-told3 .given .1) (means-trap (c .before .before .before .before .args .p) t part (c .before .caught-codes .ensures) (c .caught-codes2 .ensures))
+returns-3 c =
+    let at-enum-told3 = c .before .before in
+    let at-start = at-enum-told3 .before .before in
+    λ t part halts.
+    rw (at-enum-told3 .enum-told3 .given .1)
+    (means-trap (at-start .args .p) t part (c .before .caught-codes .ensures) (c .caught-codes2 .ensures))
 
 returns-4 : tie.Need-returns-4
-returns-4 c = λ t part halts. rw (c .enum-told4 .given .1) (means-signal (c .before .before .args .p) t part _)
+returns-4 c =
+    λ t part halts.
+    rw (c .enum-told4 .given .1) (means-signal (c .before .before .args .p) t part _)
 
 pub one-sets-spec : {M : Type 1} → statement M
 one-sets-spec =

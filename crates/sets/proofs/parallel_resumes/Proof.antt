@@ -27,9 +27,15 @@ join-requires-2 c κs = search needs
 
 returns : tie.Need-returns
 returns c =
-    let entry = c .before .before .before .before .before .before .before in
-    λ t v left right. parallel-resumes (entry .args .p) (entry .args .q) t v left right (c .before .before .before .before .before .before .ends .ensures) (c .before .before .before .before .before .only-if .ensures)
-    (c .before .before .before .before .ends2 .ensures) (c .before .before .before .only-if2 .ensures) (c .before .before .join .ensures) (c .before .maxima-of .ensures) (c .join2 .ensures)
+    let at-join = c .before .before in
+    let at-only-if2 = at-join .before in
+    let at-ends2 = at-only-if2 .before in
+    let at-only-if = at-ends2 .before in
+    let at-ends = at-only-if .before in
+    let at-start = at-ends .before in
+    λ t v left right.
+    parallel-resumes (at-start .args .p) (at-start .args .q) t v left right (at-ends .ends .ensures) (at-only-if .only-if .ensures)
+    (at-ends2 .ends2 .ensures) (at-only-if2 .only-if2 .ensures) (at-join .join .ensures) (c .before .maxima-of .ensures) (c .join2 .ensures)
 
 pub parallel-resumes-spec : {M : Type 1} → statement M
 parallel-resumes-spec =

@@ -11,7 +11,9 @@ join-requires : tie.Need-join-requires
 join-requires c κs = search needs
 
 returns : tie.Need-returns
-returns c = replaced-odd (c .before .before .args .a) (c .before .before .args .b) (c .join .result) (c .before .if1 .taken) (c .join .ensures)
+returns c =
+    let at-start = c .before .before in
+    replaced-odd (at-start .args .a) (at-start .args .b) (c .join .result) (c .before .if1 .taken) (c .join .ensures)
 
 returns-2 : tie.Need-returns-2
 returns-2 c = replaced-even (c .before .args .a) (c .before .args .b) (c .if1 .left)

@@ -36,21 +36,30 @@ parallel-resumes-requires c κs = search needs
 
 returns : tie.Need-returns
 returns c =
-    let entry = c .before .before .before .before .before in
-    λ t v left right. rw (c .before .before .before .enum-told .given .1)
-    (means-sequence (entry .args .p) (entry .args .q) t v left right (c .before .before .replace-0 .ensures) (c .before .replace-02 .ensures) (c .join .ensures))
+    let at-replace-0 = c .before .before in
+    let at-enum-told = at-replace-0 .before in
+    let at-start = at-enum-told .before .before in
+    λ t v left right.
+    rw (at-enum-told .enum-told .given .1)
+    (means-sequence (at-start .args .p) (at-start .args .q) t v left right (at-replace-0 .replace-0 .ensures)
+    (c .before .replace-02 .ensures) (c .join .ensures))
 
 returns-2 : tie.Need-returns-2
 returns-2 c =
-    let entry = c .before .before .before .before in
-    λ t v left right. rw (c .before .before .enum-told2 .given .1)
-    (means-present (entry .args .p) (entry .args .q) t v left right _ (c .before .join2 .ensures) (c .join3 .ensures))
+    let at-enum-told2 = c .before .before in
+    let at-start = at-enum-told2 .before .before in
+    λ t v left right.
+    rw (at-enum-told2 .enum-told2 .given .1)
+    (means-present (at-start .args .p) (at-start .args .q) t v left right _ (c .before .join2 .ensures) (c .join3 .ensures))
 
 returns-3 : tie.Need-returns-3
 returns-3 c =
-    let entry = c .before .before .before .before in
-    λ t v left right. rw (c .before .before .enum-told3 .given .1)
-    (means-parallel (entry .args .p) (entry .args .q) t v left right (c .before .maxima-of .ensures) (c .parallel-resumes .ensures t v left right))
+    let at-enum-told3 = c .before .before in
+    let at-start = at-enum-told3 .before .before in
+    λ t v left right.
+    rw (at-enum-told3 .enum-told3 .given .1)
+    (means-parallel (at-start .args .p) (at-start .args .q) t v left right (c .before .maxima-of .ensures)
+    (c .parallel-resumes .ensures t v left right))
 
 pub two-sets-spec : {M : Type 1} → statement M
 two-sets-spec =
