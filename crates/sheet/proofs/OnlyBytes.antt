@@ -55,12 +55,3 @@ refused-exactly s are = (forth, λ none. back (readSheet s) refl none)
         → (f : Fault) × (readSheet s ≡ faulty f)
     back (faulty f) q none = (f, q)
     back (sheet w) q none = absurd (none (w .inputs) (w .outputs) (w .root) (proper s w q) (only-bytes s are w q))
-
--- two proper trees with the same bytes are the same
-pub one-tree : (i o : ℕ) (t : Stmt) (i′ o′ : ℕ) (t′ : Stmt) → Proper i o t → Proper i′ o′ t′ → sheetBytes i o t ≡ sheetBytes i′ o′ t′
-    → (i ≡ i′) × (o ≡ o′) × (t ≡ t′)
-one-tree i o t i′ o′ t′ k k′ same =
-    let first : readSheet (sheetBytes i o t) ≡ sheet (sheetOf i o t) = read-back i o t k in
-    let second : readSheet (sheetBytes i o t) ≡ sheet (sheetOf i′ o′ t′) = ap readSheet same ∙ read-back i′ o′ t′ k′ in
-    let tree : sheetOf i o t ≡ sheetOf i′ o′ t′ = cc in
-    (ap (λ (w : Sheet). w .inputs) tree, ap (λ (w : Sheet). w .outputs) tree, ap (λ (w : Sheet). w .root) tree)
