@@ -61,8 +61,11 @@ module _ (s m : ℕ) where
       let wv = gate-within s m Or (past (suc n) x) g (x .net) hg (wx .net) (omega arith) in
       let ww = gate-within s m Butnot (past (past (suc n) x) v) (v .net) i (wv .net) hi (omega arith) in
       record {
-        operands =
-            (ww .net, append-within s m (x .cells) (v .cells ++ w .cells) (wx .operands) (append-within s m (v .cells) (w .cells) (wv .operands) (ww .operands)));
+        operands = (
+          ww .net,
+          append-within s m (x .cells) (v .cells ++ w .cells) (wx .operands)
+              (append-within s m (v .cells) (w .cells) (wv .operands) (ww .operands)),
+        );
         sel = omega arith;
         codes = only-within s m 1 (v .net) (wv .net);
         lists = hL;
@@ -78,8 +81,10 @@ module _ (s m : ℕ) where
         lists = hp .lists;
       }
 
-  watching-within : (e : SignalNo) (k n : ℕ) (r : CellNo) (a : New) (p : Built) → ofCell (signalCell e) < m → ofCell r < m → AllWithin s m (a .cells)
-      → n ≡ past k a → (n + length (p .cells) ≤ m → BuiltWithin s m p) → k + length ((buildWatching e n r a p) .cells) ≤ m → BuiltWithin s m (buildWatching e n r a p)
+  watching-within : (e : SignalNo) (k n : ℕ) (r : CellNo) (a : New) (p : Built) → ofCell (signalCell e) < m → ofCell r < m
+      → AllWithin s m (a .cells)
+      → n ≡ past k a → (n + length (p .cells) ≤ m → BuiltWithin s m p) → k + length ((buildWatching e n r a p) .cells) ≤ m
+      → BuiltWithin s m (buildWatching e n r a p)
   unfolding buildWatching
   watching-within e k n r a p he hr ha place f h =
       let n₂ : ℕ = n + length (p .cells) in
@@ -107,7 +112,8 @@ module _ (s m : ℕ) where
         lists = hp .lists;
       }
 
-  trap-built : (n : ℕ) (p : Built) → (n + length (p .cells) ≤ m → BuiltWithin s m p) → n + length ((buildTrap n p) .cells) ≤ m → BuiltWithin s m (buildTrap n p)
+  trap-built : (n : ℕ) (p : Built) → (n + length (p .cells) ≤ m → BuiltWithin s m p) → n + length ((buildTrap n p) .cells) ≤ m
+      → BuiltWithin s m (buildTrap n p)
   unfolding buildTrap
   trap-built n p f h =
       let o : New = orAt (n + length (p .cells)) (code (p .codes) 0) (code (p .codes) 2) in
@@ -215,7 +221,8 @@ module _ (s m i N : ℕ) (signals : suc N ≤ m) where
   unfolding buildPresent
   present-fits n n₁ x y a b e h = omega (arith, simp (length-append) at h)
 
-  watching-fits : (e : SignalNo) (n : ℕ) (r : CellNo) (a : New) (b : Built) → n + length ((buildWatching e (past n a) r a b) .cells) ≤ m → past n a ≤ m
+  watching-fits : (e : SignalNo) (n : ℕ) (r : CellNo) (a : New) (b : Built) → n + length ((buildWatching e (past n a) r a b) .cells) ≤ m
+      → past n a ≤ m
   unfolding buildWatching
   watching-fits e n r a b h = omega (arith, simp (length-append) at h)
 
@@ -223,7 +230,8 @@ module _ (s m i N : ℕ) (signals : suc N ≤ m) where
   unfolding buildParallel
   parallel-fits n k keep a b h = omega arith
 
-  pub build-within : (t : Stmt) (n : ℕ) (g r k : CellNo) (L : List CellNo) → Scoped i N t → ofCell g < m → ofCell r < m → ofCell k < m → NetsBelow m L
+  pub build-within : (t : Stmt) (n : ℕ) (g r k : CellNo) (L : List CellNo) → Scoped i N t → ofCell g < m → ofCell r < m → ofCell k < m
+      → NetsBelow m L
       → n + length ((build t n g r k L) .cells) ≤ m → BuiltWithin s m (build t n g r k L)
   unfolding build Scoped
   build-within (leaf Nothing) n g r k L c hg hr hk hL h = exit-within s m 0 g L hg hL

@@ -122,7 +122,8 @@ abbrev pub withInputs : ℕ → List ℕ → List ℕ
 withInputs I l = sets l 0 (map word (Low ∷ (High ∷ inputCells 1 I)))
 
 -- the head: constants, inputs, boot
-pub head-wrote : (I n : ℕ) (l : List ℕ) {l₁ l₂ l₃ l₄ l₅ : List ℕ} → l₁ ≡ set l 0 (word Low) → l₂ ≡ set l₁ 1 (word High) → l₃ ≡ sets l₂ 2 (map word (inputCells 1 I))
+pub head-wrote : (I n : ℕ) (l : List ℕ) {l₁ l₂ l₃ l₄ l₅ : List ℕ} → l₁ ≡ set l 0 (word Low) → l₂ ≡ set l₁ 1 (word High)
+    → l₃ ≡ sets l₂ 2 (map word (inputCells 1 I))
     → l₄ ≡ set l₃ (1 + n) (word (Register high)) → l₅ ≡ set l₄ (2 + n) (word (Gate Butnot high (cellNo (1 + n))))
     → l₅ ≡ sets (withInputs I l) (1 + n) (map word (bootCells n))
 head-wrote I n l e₁ e₂ e₃ e₄ e₅ = let next : 2 + n ≡ suc (1 + n) = omega arith in e₅ ∙ rw (next, e₄, e₃, e₂, e₁) refl

@@ -227,7 +227,8 @@ present-sized k m n x y p q hx hy hp hq =
       long = or-row-long (p .codes) (q .codes) (past n₂ s) (hp .long ∙ sym (hq .long)) ∙ hp .long;
     }
 
-parallel-sized : (k m n : ℕ) (i : CellNo) (keep : ℕ → Bool) (p q : Built) → Sized k p → Sized m q → Sized (k + m + ownCells) (buildParallel n i keep p q)
+parallel-sized : (k m n : ℕ) (i : CellNo) (keep : ℕ → Bool) (p q : Built) → Sized k p → Sized m q
+    → Sized (k + m + ownCells) (buildParallel n i keep p q)
 unfolding buildParallel
 parallel-sized k m n i keep p q hp hq =
     let n₂ : ℕ = suc n + length (p .cells) + length (q .cells) in

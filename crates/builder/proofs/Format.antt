@@ -199,7 +199,8 @@ unfolding build buildHalt
 halt-starts h n g r i L = record { operand = _; rest = _; is = refl }
 
 -- registers stand in the order boot, halt 0, halt 1, ..
-pub halt-register : (I U : ℕ) (t : Stmt) → Numbered (haltNo 0) t → {h : HaltNo} {w : Takes} {k : ℕ} → Part t (rootTakes (1 + I + U)) (leaf (Halt h)) w k
+pub halt-register : (I U : ℕ) (t : Stmt) → Numbered (haltNo 0) t → {h : HaltNo} {w : Takes} {k : ℕ}
+    → Part t (rootTakes (1 + I + U)) (leaf (Halt h)) w k
     → HaltRegister (netlist I U t) h (cellNo (w .first))
 unfolding rootOf
 halt-register I U t numbered {h} {w} {k} part =

@@ -87,7 +87,8 @@ one-cell : (x y : CellNo) → registers (Gate Or x y ∷ []) ≡ 0
 one-cell x y = registers-gate Or x y [] ∙ registers-nil
 
 -- the part of a statement with one part
-closed-one : (u : Unary) (n : ℕ) (g r i : CellNo) (p : Built) → Stands ((closeOne u n g r p) .cells) n (p .cells) (n + length ((openOne u n g r i) .cells)) 0
+closed-one : (u : Unary) (n : ℕ) (g r i : CellNo) (p : Built)
+    → Stands ((closeOne u n g r p) .cells) n (p .cells) (n + length ((openOne u n g r i) .cells)) 0
 unfolding buildLoop buildWatching buildTrap
 closed-one Loop n g r i p =
     record { earlier = Gate Or g (code (p .codes) 0) ∷ []; later = []; is = rw (append-nil (p .cells)) refl; place = refl; order = one-cell g (code (p .codes) 0) }
@@ -173,7 +174,8 @@ part-stands (in-right {b} {p} {q} {t} {w} {w′} {k} s) =
     (closed-right b (given (two b p q)) (w .first) (w .go) (w .res) (w .kill) (built p left) (built q (rightTakes b p w)))) (part-stands s))
 
 -- the halts before it are those with lower numbers
-pub part-number : {t : Stmt} {w w′ : Takes} {k : ℕ} {h : HaltNo} (a : HaltNo) → Numbered a t → Part t w (leaf (Halt h)) w′ k → ofHalt h ≡ ofHalt a + k
+pub part-number : {t : Stmt} {w w′ : Takes} {k : ℕ} {h : HaltNo} (a : HaltNo) → Numbered a t → Part t w (leaf (Halt h)) w′ k
+    → ofHalt h ≡ ofHalt a + k
 unfolding Numbered
 part-number a m (itself t w) = omega (arith, ap ofHalt m)
 part-number a m (in-one s) = part-number a m s

@@ -58,15 +58,18 @@ of-sequence : (n : ℕ) (a b : Built) → registers ((buildSequence n a b) .cell
 unfolding buildSequence
 of-sequence n a b = simp (registers-append, none-gate, none-row, add-zero)
 
-of-parallel : (n : ℕ) (i : CellNo) (keep : ℕ → Bool) (a b : Built) → registers ((buildParallel n i keep a b) .cells) ≡ registers (a .cells) + registers (b .cells)
+of-parallel : (n : ℕ) (i : CellNo) (keep : ℕ → Bool) (a b : Built)
+    → registers ((buildParallel n i keep a b) .cells) ≡ registers (a .cells) + registers (b .cells)
 unfolding buildParallel
 of-parallel n i keep a b = registers-gate Or i _ _ ∙ simp (registers-append, none-gate, none-parallelRow, add-zero)
 
-of-present : (n : ℕ) (x y : New) (a b : Built) → None (x .cells) → None (y .cells) → registers ((buildPresent n x y a b) .cells) ≡ registers (a .cells) + registers (b .cells)
+of-present : (n : ℕ) (x y : New) (a b : Built) → None (x .cells) → None (y .cells)
+    → registers ((buildPresent n x y a b) .cells) ≡ registers (a .cells) + registers (b .cells)
 unfolding buildPresent
 of-present n x y a b p q = simp (registers-append, p, q, none-gate, none-row, add-zero, zero-add)
 
-of-watching : (s : SignalNo) (n : ℕ) (r : CellNo) (x : New) (a : Built) → None (x .cells) → registers ((buildWatching s n r x a) .cells) ≡ registers (a .cells)
+of-watching : (s : SignalNo) (n : ℕ) (r : CellNo) (x : New) (a : Built) → None (x .cells)
+    → registers ((buildWatching s n r x a) .cells) ≡ registers (a .cells)
 unfolding buildWatching
 of-watching s n r x a p = simp (registers-append, p, none-gate, add-zero, zero-add)
 

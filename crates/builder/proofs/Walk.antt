@@ -70,7 +70,8 @@ module _ {w : Task} where
 
   pub one-does : {l₁ l₂ l₃ ls′ : List ℕ} {o : Opened} {p b : Returned} {u : Unary} → rowAt (w .rows) (w .stmt) .head ≡ One u
       → Opens (openOne u (w .next) (w .go) (w .res) (w .kill)) (w .cells) l₁ (w .next) o
-      → Does (inner (w .rows) (w .statics) o (further (w .stmt) 1) (o .count) (o .go) l₁ (w .lists)) l₂ ls′ p → ClosesOne u (w .next) (w .go) (w .res) l₂ l₃ p b → Does w l₃ ls′ b
+      → Does (inner (w .rows) (w .statics) o (further (w .stmt) 1) (o .count) (o .go) l₁ (w .lists)) l₂ ls′ p
+      → ClosesOne u (w .next) (w .go) (w .res) l₂ l₃ p b → Does w l₃ ls′ b
   one-does {u = u} e o d c = record {
     does = λ a t h f.
         let k = is-one (w .rows) (w .stmt) a t h e in
@@ -81,7 +82,8 @@ module _ {w : Task} where
 
   pub two-does : {l₁ l₂ l₃ l₄ ls₁ ls₂ : List ℕ} {o : Opened} {g : CellNo} {p q s : Returned} {b : Binary} {j : StmtNo} (keep : ℕ)
       → rowAt (w .rows) (w .stmt) .head ≡ Two b → Opens (openTwo b (w .next) (w .go) (w .res) (w .kill)) (w .cells) l₁ (w .next) o
-      → Does (inner (w .rows) (w .statics) o (further (w .stmt) 1) (o .count) (o .go) l₁ (w .lists)) l₂ ls₁ p → j ≡ rowAt (w .rows) (further (w .stmt) 1) .end
+      → Does (inner (w .rows) (w .statics) o (further (w .stmt) 1) (o .count) (o .go) l₁ (w .lists)) l₂ ls₁ p
+      → j ≡ rowAt (w .rows) (further (w .stmt) 1) .end
       → g ≡ goOf b (o .other) (p .codes) → Does (inner (w .rows) (w .statics) o j (p .count) g l₂ ls₁) l₃ ls₂ q
       → ((t : Stmt) → Low t → Entered (w .statics) (w .stmt) t → has keep ≡ given t)
       → ClosesTwo b (has keep) (record { start = w .next; go = w .go; kill = w .kill }) l₃ l₄ p q s → Does w l₄ ls₂ s
@@ -120,7 +122,8 @@ open-two-few (Present s) n g r i =
 open-two-few Parallel n g r i = omega arith
 
 -- what a walk builds has few cells
-does-few : {w : Task} {l′ ls′ : List ℕ} {b : Returned} (a : HaltNo) (p : Stmt) → Holds (w .rows) (w .stmt) a p → Fit (w .statics) (w .stmt) p → Does w l′ ls′ b
+does-few : {w : Task} {l′ ls′ : List ℕ} {b : Returned} (a : HaltNo) (p : Stmt) → Holds (w .rows) (w .stmt) a p
+    → Fit (w .statics) (w .stmt) p → Does w l′ ls′ b
     → b .count ≤ w .next + ownCells * size p
 does-few {w} a p h f d =
     omega (arith, d .does a p h f .wrote .counted, sized p (w .next) (w .go) (w .res) (w .kill) (nets (w .lists)) (f .low) .few)

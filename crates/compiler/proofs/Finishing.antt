@@ -19,7 +19,8 @@ use Rattle.order.specs.Paths.{Orderable, Answers}
 use Rattle.compiler.specs.declared.Compiled.the-variants.{Program, Refused}
 use Rattle.compiler.specs.Compile.{Finishes, found, cycle}
 
-pub orderable : (words : List ℕ) {order : List ℕ} → Closed (cellsOf words) → length words ≤ maxCells → length order ≡ maxCells → Orderable (cellsOf words) order
+pub orderable : (words : List ℕ) {order : List ℕ} → Closed (cellsOf words) → length words ≤ maxCells → length order ≡ maxCells
+    → Orderable (cellsOf words) order
 orderable words closed few places =
     let count : length (cellsOf words) ≡ length words = cells-length words in
     record { closed = closed; few = omega arith; long = omega arith }

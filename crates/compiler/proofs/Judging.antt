@@ -47,7 +47,8 @@ module _ {rows : List ℕ} {c : Counts} {w : Sheet} (is : ReadAs rows c w) where
   stands = record { first = haltNo 0; stmt = w .root; holds = is .holds; low = exits-low 0 (w .root) (omega arith) (proper-exits (is .proper)) }
 
   -- the column that was filled has the sheet's K and R
-  filled-keeps : {b : Both} {before after : List ℕ} → maxStatements ≤ length before → ((s : Stands rows root) → Filled root (s .stmt) b before after)
+  filled-keeps : {b : Both} {before after : List ℕ} → maxStatements ≤ length before
+      → ((s : Stands rows root) → Filled root (s .stmt) b before after)
       → Kept after root (w .root)
   unfolding stands
   filled-keeps {before = before} room fills =
@@ -64,7 +65,8 @@ module _ {rows : List ℕ} {c : Counts} {w : Sheet} (is : ReadAs rows c w) where
     some-sheet = record { outputs = w .outputs; stmt = w .root; is = of-sheet kept }
 
     -- a walk that asks for K and R in their column answers for the sheet's statement
-    answered : {r : Found} (f : StmtNo → Stmt → Found) → ((s : Stands rows root) → Kept after root (s .stmt) → r ≡ f root (s .stmt)) → r ≡ f root (w .root)
+    answered : {r : Found} (f : StmtNo → Stmt → Found) → ((s : Stands rows root) → Kept after root (s .stmt) → r ≡ f root (s .stmt))
+        → r ≡ f root (w .root)
     unfolding stands
     answered f says = says stands kept
 
@@ -85,7 +87,8 @@ module _ {rows : List ℕ} {c : Counts} {w : Sheet} (is : ReadAs rows c w) where
           let at = sym (answered twice says) ∙ found in
           record { answer = rw (no-instant, at); kept = kept; stored = λ e. faulty-sheet (rw (no-instant, at) at e) }
 
-      pub judges-room : {p q : Found} {r : NetlistBuilt} → ((s : Stands rows root) → Kept after root (s .stmt) → p ≡ instant root (s .stmt)) → p ≡ Clear
+      pub judges-room : {p q : Found} {r : NetlistBuilt} → ((s : Stands rows root) → Kept after root (s .stmt) → p ≡ instant root (s .stmt))
+          → p ≡ Clear
           → ((s : Stands rows root) → Kept after root (s .stmt) → q ≡ twice root (s .stmt)) → q ≡ Clear
           → DoesNetlist rows after (c .inputs) (c .signals) cells cells′ r → Judges w r after cells cells′
       unfolding judged unless

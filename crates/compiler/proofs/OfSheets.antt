@@ -35,7 +35,8 @@ module _ (I m : ℕ) where
   nets : (y z : CellNo) → (ofCell y < m) × (ofCell z < m) → (isNet m y && isNet m z) ≡ true
   nets y z h = rw (lt-ltb (ofCell y) m (h .0), lt-ltb (ofCell z) m (h .1)) refl
 
-  gate-fits : (x : CellNo) (c : Cell) → I + 1 < ofCell x → isGate c ≡ true → Within (1 + I) m c → (kindFits I x (kindOf c) && operandsFit m x c) ≡ true
+  gate-fits : (x : CellNo) (c : Cell) → I + 1 < ofCell x → isGate c ≡ true → Within (1 + I) m c
+      → (kindFits I x (kindOf c) && operandsFit m x c) ≡ true
   unfolding operandsFit
   gate-fits x Low past g w = no-gate g
   gate-fits x High past g w = no-gate g

@@ -45,7 +45,8 @@ module _ {s before after : List ℕ} (room : maxStatements ≤ length before) wh
   was-read (sheet w) e did =
       let counts = did .answer in
       let ok = proper s w e in
-      let held : Holds (lay before (stmtNo 0) (haltNo 0) (w .root)) (stmtNo 0) (haltNo 0) (w .root) = holds-proper (w .inputs) (w .outputs) before (w .root) ok room in
+      let laid : List ℕ = lay before (stmtNo 0) (haltNo 0) (w .root) in
+      let held : Holds laid (stmtNo 0) (haltNo 0) (w .root) = holds-proper (w .inputs) (w .outputs) before (w .root) ok room in
       record { w = w; read = e; is = record { proper = ok; counts = cc; holds = rw (did .rows) held } }
 
   pub sheet-was-read : {r : SheetRead} {c : Counts} → DidSheet (readSheet s) r before after → r ≡ Read c → WasRead s after c

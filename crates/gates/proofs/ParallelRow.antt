@@ -94,7 +94,8 @@ highest-nil : (n : ℕ) (keep : ℕ → Bool) → highest n keep [] ≡ none
 unfolding highest none
 highest-nil n keep = refl
 
-pub looping-start : (l : List ℕ) (n : ℕ) (keep : ℕ → Bool) (a b nets : List CellNo) → length a ≡ maxCodes → length b ≡ maxCodes → length nets ≡ maxCodes
+pub looping-start : (l : List ℕ) (n : ℕ) (keep : ℕ → Bool) (a b nets : List CellNo) → length a ≡ maxCodes → length b ≡ maxCodes
+    → length nets ≡ maxCodes
     → Looping l n keep a b l nets n low maxCodes
 unfolding none
 looping-start l n keep a b nets ha hb hn =
@@ -134,7 +135,8 @@ unfolding parallelRow fromOn
 parallel-cons n keep c cs = refl
 
 -- the pair of code j, before those above it
-next-pair : (a b : List CellNo) (j : ℕ) → length a ≡ maxCodes → length b ≡ maxCodes → j < maxCodes → drop j (pairs a b) ≡ (code a j, code b j) ∷ drop (suc j) (pairs a b)
+next-pair : (a b : List CellNo) (j : ℕ) → length a ≡ maxCodes → length b ≡ maxCodes → j < maxCodes
+    → drop j (pairs a b) ≡ (code a j, code b j) ∷ drop (suc j) (pairs a b)
 next-pair a b j la lb lt =
     let lp : length (pairs a b) ≡ maxCodes = pairs-length a b (la ∙ sym lb) ∙ la in
     drop-cons (pairs a b) j (low, low) (omega arith) ∙ ap (λ (c : CellNo × CellNo). c ∷ drop (suc j) (pairs a b)) (pairs-at a b j)

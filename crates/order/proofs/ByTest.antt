@@ -57,7 +57,8 @@ module _ (cells : List Cell) (order places : List ℕ) where
   stands-before : (j : ℕ) (y : CellNo) → before j y ≡ true → (i : ℕ) × (i < j) × (placed order i ≡ y)
   stands-before j y e =
       let i : ℕ = place (ofCell y) in
-      (i, ltb-true i j (and-left (ltb i j) (eqb (at i) (ofCell y)) e), ap cellNo (eqb-true (at i) (ofCell y) (and-right (ltb i j) (eqb (at i) (ofCell y)) e)))
+      let same : Bool = eqb (at i) (ofCell y) in
+      (i, ltb-true i j (and-left (ltb i j) same e), ap cellNo (eqb-true (at i) (ofCell y) (and-right (ltb i j) same e)))
 
   pins-before : (j : ℕ) (p : Pins) (y : CellNo) → needed j p ≡ true → Among p y → (i : ℕ) × (i < j) × (placed order i ≡ y)
   pins-before j None y e h = absurd h

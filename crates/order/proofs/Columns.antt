@@ -50,7 +50,8 @@ pub placed-other : (column : List ℕ) (i j : ℕ) (x : CellNo) → (i ≡ j →
 placed-other column i j x n = ap cellNo (getD-set-other column j i (ofCell x) 0 n)
 
 -- a store past the first n leaves what stands among them
-pub still-stands : {column : List ℕ} {n : ℕ} {y : CellNo} (m k : ℕ) (x : CellNo) → n ≤ m → n ≤ k → Stands column n y → Stands (set column m (ofCell x)) k y
+pub still-stands : {column : List ℕ} {n : ℕ} {y : CellNo} (m k : ℕ) (x : CellNo) → n ≤ m → n ≤ k → Stands column n y
+    → Stands (set column m (ofCell x)) k y
 still-stands {column} m k x h h′ w =
     record {
       place = w .place;
@@ -96,7 +97,8 @@ zeros-none (suc n) (zero ∷ marks) s = absurd (omega (arith, s 0 (omega arith))
 zeros-none (suc n) (suc m ∷ marks) s = zeros-none n marks (λ i h. s (suc i) (omega arith))
 
 -- Clearing the marks.
-pub clear-more : (marks : List ℕ) (i : ℕ) → i < length marks → ((k : ℕ) → k < i → getD marks k 0 ≡ 0) → (k : ℕ) → k < i + 1 → getD (set marks i 0) k 0 ≡ 0
+pub clear-more : (marks : List ℕ) (i : ℕ) → i < length marks → ((k : ℕ) → k < i → getD marks k 0 ≡ 0) → (k : ℕ) → k < i + 1
+    → getD (set marks i 0) k 0 ≡ 0
 clear-more marks i h z k low = go (ℕ-discrete k i)
   where
     go : Dec (k ≡ i) → getD (set marks i 0) k 0 ≡ 0
@@ -116,7 +118,8 @@ pub still-lent : {cells : List Cell} {marks marks′ stack stack′ : List ℕ} 
 still-lent l m s = record { few = l .few; wide = omega (arith, l .wide); deep = omega (arith, l .deep) }
 
 -- Columns with an entry for each of the most cells suffice for all cells that can be ordered, and zeros are no marks.
-pub lent : {cells : List Cell} {marks stack order : List ℕ} → Orderable cells order → length marks ≡ maxCells → length stack ≡ maxCells → WorkRoom cells marks stack
+pub lent : {cells : List Cell} {marks stack order : List ℕ} → Orderable cells order → length marks ≡ maxCells → length stack ≡ maxCells
+    → WorkRoom cells marks stack
 lent o m s = record { few = omega (arith, o .few); wide = omega (arith, o .few); deep = omega (arith, o .few) }
 
 pub blank : (n : ℕ) → IsBlank (replicate n 0)

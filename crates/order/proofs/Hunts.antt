@@ -33,13 +33,15 @@ hunt-begins {cells} {marks} c e l z =
     }
 
 -- There is room on the stack for a cell that is new.
-pub note-room : {cells : List Cell} {marks stack : List ℕ} {top : ℕ} (y : CellNo) → WorkRoom cells marks stack → top + zeros (length cells) marks ≤ length cells
+pub note-room : {cells : List Cell} {marks stack : List ℕ} {top : ℕ} (y : CellNo) → WorkRoom cells marks stack
+    → top + zeros (length cells) marks ≤ length cells
     → IsCell cells y → mark marks y ≡ 0 → top < length stack
 note-room {cells} {marks} y l room is fresh =
     omega (arith, zeros-new (length cells) marks (ofCell y) 0 is (omega (arith, l .wide)) fresh, l .deep)
 
 -- What noting a cell y leaves as it was, and what it changes.
-noted-still : {marks stack marks′ stack′ : List ℕ} {top top′ : ℕ} {y : CellNo} → ofCell y < length marks → Noted marks stack top y marks′ stack′ top′
+noted-still : {marks stack marks′ stack′ : List ℕ} {top top′ : ℕ} {y : CellNo} → ofCell y < length marks
+    → Noted marks stack top y marks′ stack′ top′
     → (x : CellNo) → Seen marks x → Seen marks′ x
 noted-still h (old seen) x s = s
 noted-still {marks} {y = y} h (new e) x s = still-seen marks y x 0 h s
@@ -118,7 +120,8 @@ module _ {cells : List Cell} {marks stack : List ℕ} {c e : CellNo} {top : ℕ}
           go (yes q) = subst⁻¹ (Seen marks′) (ap (placed stack′) q ∙ placed-same stack top y in-stack) here
           go (no n) = subst⁻¹ (Seen marks′) (placed-other stack j top y n) (kept (placed stack j) (h .waits j (omega arith)))
 
-noted-hunting : {cells : List Cell} {marks stack marks′ stack′ : List ℕ} {c e : CellNo} {top top′ : ℕ} {y : CellNo} → Hunting cells c marks stack top e
+noted-hunting : {cells : List Cell} {marks stack marks′ stack′ : List ℕ} {c e : CellNo} {top top′ : ℕ} {y : CellNo}
+    → Hunting cells c marks stack top e
     → IsCell cells y → Reaches cells c y → Noted marks stack top y marks′ stack′ top′ → Hunting cells c marks′ stack′ top′ e
 noted-hunting h is way (old seen) = h
 noted-hunting {y = y} h is way (new fresh) = hunts-new h y is fresh way
@@ -169,7 +172,8 @@ expand-both {cells} {marks} {marks₁} {marks₂} {stack} {stack₁} {stack₂} 
     all : (y : CellNo) → Needs cells x y → Seen marks₂ y
     all = needs-only pins (Seen marks₂) (noted-still in-b q a (noted-seen in-a p)) (noted-seen in-b q)
 
-    both : (c : CellNo) → Hunting cells c marks stack top x → ((y : CellNo) → Needs cells x y → Reaches cells c y) → Hunting cells c marks₂ stack₂ top₂ x
+    both : (c : CellNo) → Hunting cells c marks stack top x → ((y : CellNo) → Needs cells x y → Reaches cells c y)
+        → Hunting cells c marks₂ stack₂ top₂ x
     both c h way = noted-hunting (noted-hunting h is-a (way a (needs-first pins)) p) is-b (way b (needs-second pins)) q
 
 -- Between two cells: all that c needs is seen, and no cell is an exception.
@@ -218,7 +222,8 @@ module _ {cells : List Cell} {marks stack : List ℕ} {c : CellNo} {top : ℕ} (
           go t (yes e) = inr (sym (t .is) ∙ ap (placed stack) e ∙ last)
           go t (no n) = inl (record { place = t .place; low = omega (arith, t .low); is = t .is })
 
-pub goes-on : {cells : List Cell} {marks marks′ stack stack′ : List ℕ} {c : CellNo} {top top′ : ℕ} (x : CellNo) → Between cells c marks stack top → 0 < top
+pub goes-on : {cells : List Cell} {marks marks′ stack stack′ : List ℕ} {c : CellNo} {top top′ : ℕ} (x : CellNo)
+    → Between cells c marks stack top → 0 < top
     → placed stack (top - 1) ≡ x → Expanded cells marks stack (top - 1) x marks′ stack′ top′ → Between cells c marks′ stack′ top′
 goes-on {c = c} x b some last ex =
     record {

@@ -286,7 +286,8 @@ pub record Under (cells : List Cell) (marks₀ marks stack order : List ℕ) (to
   pub still : (y : CellNo) → Seen marks₀ y → Seen marks y
 
 -- it began at x, which was new and was opened
-pub under-begins : {cells : List Cell} {marks stack order : List ℕ} {count : ℕ} (x : CellNo) → Searching cells marks stack order 0 count → IsCell cells x
+pub under-begins : {cells : List Cell} {marks stack order : List ℕ} {count : ℕ} (x : CellNo) → Searching cells marks stack order 0 count
+    → IsCell cells x
     → mark marks x ≡ 0 → Under cells (set marks (ofCell x) 1) (set marks (ofCell x) 1) (set stack 0 (ofCell x)) order 1 count
 under-begins x s is new = record { searching = opens s x is new (λ j e. absurd (omega arith)); still = λ y h. h }
 

@@ -146,7 +146,8 @@ module _ (n : ℕ) (g r : CellNo) (p : Returned) where
   signal-closes s l₂ =
       record { closes = λ l l₁ ls n₁ i x w b. record { wrote = wrote-more w (b .wrote); lists = b .lists; sel = b .sel; codes = b .codes } }
 
-  pub trap-closes : {l₂ l₃ : List ℕ} {ks : List CellNo} {n₃ : ℕ} {o : CellNo} → Makes 1 (orAt (p .count) (code (p .codes) 0) (code (p .codes) 2)) l₂ l₃ (p .count) n₃ o
+  pub trap-closes : {l₂ l₃ : List ℕ} {ks : List CellNo} {n₃ : ℕ} {o : CellNo}
+      → Makes 1 (orAt (p .count) (code (p .codes) 0) (code (p .codes) 2)) l₂ l₃ (p .count) n₃ o
       → ks ≡ trapRow o (p .codes) → ClosesOne Trap n g r l₂ l₃ p (returned n₃ (p .sel) ks)
   unfolding buildTrap
   trap-closes m k =
@@ -195,7 +196,8 @@ module _ (keep : ℕ → Bool) (w : Begun) (p q : Returned) where
   abbrev n : ℕ
   n = w .start
 
-  pub sequence-closes : {l₃ l₄ : List ℕ} {s : Returned} → Joins (joined (q .count) (p .sel) (q .sel) (withCode0 low (p .codes)) (q .codes)) l₃ l₄ (q .count) s
+  pub sequence-closes : {l₃ l₄ : List ℕ} {s : Returned}
+      → Joins (joined (q .count) (p .sel) (q .sel) (withCode0 low (p .codes)) (q .codes)) l₃ l₄ (q .count) s
       → ClosesTwo Sequence keep w l₃ l₄ p q s
   unfolding buildSequence
   sequence-closes j =
@@ -210,7 +212,8 @@ module _ (keep : ℕ → Bool) (w : Begun) (p q : Returned) where
             };
       }
 
-  pub present-closes : {l₃ l₄ : List ℕ} {s : Returned} (sg : SignalNo) → Joins (joined (q .count) (p .sel) (q .sel) (p .codes) (q .codes)) l₃ l₄ (q .count) s
+  pub present-closes : {l₃ l₄ : List ℕ} {s : Returned} (sg : SignalNo)
+      → Joins (joined (q .count) (p .sel) (q .sel) (p .codes) (q .codes)) l₃ l₄ (q .count) s
       → ClosesTwo (Present sg) keep w l₃ l₄ p q s
   unfolding buildPresent
   present-closes sg j =
@@ -229,7 +232,8 @@ module _ (keep : ℕ → Bool) (w : Begun) (p q : Returned) where
             };
       }
 
-  pub parallel-closes : {l₃ l₄ l₅ l₆ : List ℕ} {n₄ n₅ : ℕ} {s k : CellNo} {ks : List CellNo} → Makes 1 (orAt (q .count) (p .sel) (q .sel)) l₃ l₄ (q .count) n₄ s
+  pub parallel-closes : {l₃ l₄ l₅ l₆ : List ℕ} {n₄ n₅ : ℕ} {s k : CellNo} {ks : List CellNo}
+      → Makes 1 (orAt (q .count) (p .sel) (q .sel)) l₃ l₄ (q .count) n₄ s
       → MakesHighest parallelCells (parallelRow n₄ keep (pairs (p .codes) (q .codes))) l₄ l₅ n₄ n₅ ks k → l₆ ≡ set l₅ n (word (Gate Or (w .kill) k))
       → ClosesTwo Parallel keep w l₃ l₆ p q (returned n₅ s ks)
   unfolding buildParallel

@@ -177,7 +177,11 @@ statement-statement-requires-3 t c κs =
 
 statement-given-requires : (t : ℕ) → statement-lts.Need-given-requires (calls t) (statement-at t) statement′.Post
 statement-given-requires t c κs =
-    let at-h3 = c .before .before .before .before .before .before .before .before .before .before .before .before .before .before .before .before .before .before .before .before .before .before .before in
+    let at-statement3 = c .before .before .before .before .before in
+    let at-second-part = at-statement3 .before .before .before .before in
+    let at-statement2 = at-second-part .before .before .before .before .before .before in
+    let at-open-two = at-statement2 .before .before .before .before .before in
+    let at-h3 = at-open-two .before .before .before in
     let at-head-at = at-h3 .before .before .before in
     let start = at-head-at .before .before .before .before .before in
     ready-sets (start .pre .1) (sym (at-head-at .head-at .ensures) ∙ at-h3 .h3 .given .1)
@@ -235,7 +239,13 @@ statement-same-length-5 t c =
     let at-statement3 = at-close-two .before .before .before .before .before .before .before in
     let at-statement2 = at-statement3 .before .before .before .before .before .before .before .before .before .before in
     let at-open-two = at-statement2 .before .before .before .before .before in
-    omega (arith, at-close-two .close-two .kept .0, at-statement3 .statement3 .kept .1 .1 .0, at-statement2 .statement2 .kept .1 .1 .0, at-open-two .open-two .kept .0)
+    omega (
+      arith,
+      at-close-two .close-two .kept .0,
+      at-statement3 .statement3 .kept .1 .1 .0,
+      at-statement2 .statement2 .kept .1 .1 .0,
+      at-open-two .open-two .kept .0,
+    )
 
 statement-same-length-6 : (t : ℕ) → statement-lts.Need-same-length-6 (calls t) (statement-at t) statement′.Post
 statement-same-length-6 t c =
@@ -259,8 +269,8 @@ statement-returns-3 t c =
     let a = start .args in
     let first = rw (at-first-part .first-part .ensures) at (at-statement2 .statement2 .ensures) in
     let place = at-second-part .second-part .ensures in
-    two-does (at-given .given .result) (sym (at-head-at .head-at .ensures) ∙ at-h3 .h3 .given .1) (at-open-two .open-two .ensures) first place (at-go-of .go-of .ensures) (at-statement3 .statement3 .ensures)
-    (at-given .given .ensures) (at-close-two .close-two .ensures)
+    two-does (at-given .given .result) (sym (at-head-at .head-at .ensures) ∙ at-h3 .h3 .given .1) (at-open-two .open-two .ensures) first place
+    (at-go-of .go-of .ensures) (at-statement3 .statement3 .ensures) (at-given .given .ensures) (at-close-two .close-two .ensures)
 
 pub +statement-spec : {M : Type 1} → statement M
 +statement-spec = close μ-statement λ t. statement-lts.spec (calls t)

@@ -115,7 +115,8 @@ returns-3 c =
     let twices = rw root at (at-first-twice .first-twice .ensures) in
     record {
       judges = λ w is.
-          judges-room is (start .pre .2) fills instants (at-enum-told .enum-told .given .1) twices (at-enum-told2 .enum-told2 .given .1) (at-build-netlist .build-netlist .ensures);
+          judges-room is (start .pre .2) fills instants (at-enum-told .enum-told .given .1) twices (at-enum-told2 .enum-told2 .given .1)
+          (at-build-netlist .build-netlist .ensures);
     }
 
 pub judge-spec : {M : Type 1} → statement M

@@ -34,11 +34,11 @@ cast-marks c = search needs
 
 slice-write-marks : tie.Need-slice-write-marks
 slice-write-marks c =
-    let start = c .before .before .before .before .before .before .before .before .before .before .before .before in
-    let new = c .before .before .before .before .before .new in
-    let look = c .before .before .before .before .look in
+    let at-look = c .before .before .before .before in
+    let at-new = at-look .before in
+    let start = at-new .before .before .before .before .before .before .before in
     let pre = start .pre in
-    let next = rw (new .ensures, c .before .before .y .given .1) at (look .ensures) in
+    let next = rw (at-new .new .ensures, c .before .before .y .given .1) at (at-look .look .ensures) in
     omega (arith, c .number .ensures, pre .0 .gates _ _ (next .0), pre .1 .lent .wide)
 
 mul-stack : tie.Need-mul-stack
@@ -46,11 +46,11 @@ mul-stack c = search needs
 
 slice-write-stack : tie.Need-slice-write-stack
 slice-write-stack c =
-    let start = c .before .before .before .before .before .before .before .before .before .before .before .before in
-    let new = c .before .before .before .before .before .new in
-    let look = c .before .before .before .before .look in
+    let at-look = c .before .before .before .before in
+    let at-new = at-look .before in
+    let start = at-new .before .before .before .before .before .before .before in
     let pre = start .pre in
-    let next = rw (new .ensures, c .before .before .y .given .1) at (look .ensures) in
+    let next = rw (at-new .new .ensures, c .before .before .y .given .1) at (at-look .look .ensures) in
     in-stack (pre .1) _ (pre .0 .gates _ _ (next .0)) (next .1)
 
 add-t19 : tie.Need-add-t19
@@ -89,11 +89,11 @@ same-length-2 c = search needs
 
 returns : tie.Need-returns
 returns c =
-    let start = c .before .before .before .before .before .before .before .before .before .before .before .before in
-    let new = c .before .before .before .before .before .new in
-    let look = c .before .before .before .before .look in
+    let at-look = c .before .before .before .before in
+    let at-new = at-look .before in
+    let start = at-new .before .before .before .before .before .before .before in
     let pre = start .pre in
-    let next = rw (new .ensures, c .before .before .y .given .1) at (look .ensures) in
+    let next = rw (at-new .new .ensures, c .before .before .y .given .1) at (at-look .look .ensures) in
     rw (c .number .ensures) (goes-deeper (pre .1) (pre .2) _ (pre .0 .gates _ _ (next .0)) (next .1) (next .0))
 
 same-length-3 : tie.Need-same-length-3

@@ -21,23 +21,23 @@ returns c = expand-none _ (sym (c .before .before .pins-at .ensures) ∙ c .enum
 
 note-requires : tie.Need-note-requires
 note-requires c κs =
-    let start = c .before .before .before .before .before .before .before .before .before in
-    let pins-at = c .before .before .before .before .before .pins-at in
+    let at-pins-at = c .before .before .before .before .before in
+    let start = at-pins-at .before .before .before .before in
     let pre = start .pre in
-    let is-cell = pre .0 .gates _ _ (needs-first (sym (pins-at .ensures) ∙ c .before .before .before .a .given .1)) in
+    let is-cell = pre .0 .gates _ _ (needs-first (sym (at-pins-at .pins-at .ensures) ∙ c .before .before .before .a .given .1)) in
     (omega (arith, pre .1 .wide), note-room _ (pre .1) (pre .2) is-cell)
 
 note-requires-2 : tie.Need-note-requires-2
 note-requires-2 c κs =
-    let start = c .before .before .before .before .before .before .before .before .before .before .before .before .before .before .before .before in
-    let pins-at = c .before .before .before .before .before .before .before .before .before .before .before .before .pins-at in
-    let a = c .before .before .before .before .before .before .before .before .before .before .a in
-    let note = c .before .before .before .before .before .before .note in
+    let at-note = c .before .before .before .before .before .before in
+    let at-a = at-note .before .before .before .before in
+    let at-pins-at = at-a .before .before in
+    let start = at-pins-at .before .before .before .before in
     let pre = start .pre in
-    let pins = sym (pins-at .ensures) ∙ a .given .1 in
+    let pins = sym (at-pins-at .pins-at .ensures) ∙ at-a .a .given .1 in
     let is-cell = pre .0 .gates _ _ (needs-second pins) in
-    let lent = noted-lent (pre .1) (note .ensures) in
-    let room = noted-even (pre .1) (pre .0 .gates _ _ (needs-first pins)) (note .ensures) in
+    let lent = noted-lent (pre .1) (at-note .note .ensures) in
+    let room = noted-even (pre .1) (pre .0 .gates _ _ (needs-first pins)) (at-note .note .ensures) in
     (omega (arith, lent .wide), note-room _ lent (omega (arith, pre .2)) is-cell)
 
 same-length : tie.Need-same-length
@@ -48,13 +48,13 @@ same-length-2 c = search needs
 
 returns-2 : tie.Need-returns-2
 returns-2 c =
-    let start = c .before .before .before .before .before .before .before .before .before .before .before .before .before .before .before .before .before .before .before .before .before in
-    let pins-at = c .before .before .before .before .before .before .before .before .before .before .before .before .before .before .before .before .before .pins-at in
-    let a = c .before .before .before .before .before .before .before .before .before .before .before .before .before .before .before .a in
-    let note = c .before .before .before .before .before .before .before .before .before .before .before .note in
-    let note2 = c .before .before .before .before .note2 in
+    let at-note2 = c .before .before .before .before in
+    let at-note = at-note2 .before .before .before .before .before .before .before in
+    let at-a = at-note .before .before .before .before in
+    let at-pins-at = at-a .before .before in
+    let start = at-pins-at .before .before .before .before in
     let pre = start .pre in
-    expand-both (pre .0) (pre .1) (sym (pins-at .ensures) ∙ a .given .1) (note .ensures) (note2 .ensures)
+    expand-both (pre .0) (pre .1) (sym (at-pins-at .pins-at .ensures) ∙ at-a .a .given .1) (at-note .note .ensures) (at-note2 .note2 .ensures)
 
 pub expand-spec : {M : Type 1} → statement M
 expand-spec =

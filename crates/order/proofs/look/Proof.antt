@@ -27,23 +27,23 @@ cast-first c = search needs
 
 shared-slice-read-first : tie.Need-shared-slice-read-first
 shared-slice-read-first c =
-    let pins-at = c .before .before .before .before .before .pins-at in
-    let start = c .before .before .before .before .before .before .before .before in
-    let pins = sym (pins-at .ensures) ∙ c .before .before .before .a .given .1 in
+    let at-pins-at = c .before .before .before .before .before in
+    let start = at-pins-at .before .before .before in
+    let pins = sym (at-pins-at .pins-at .ensures) ∙ c .before .before .before .a .given .1 in
     omega (arith, start .pre .0 .gates _ _ (needs-first pins), c .before .number .ensures)
 
 returns-2 : tie.Need-returns-2
 returns-2 c =
-    let pins-at = c .before .before .before .before .before .before .pins-at in
-    let a = c .before .before .before .before .a in
-    let pins = sym (pins-at .ensures) ∙ a .given .1 in
+    let at-a = c .before .before .before .before in
+    let at-pins-at = at-a .before .before in
+    let pins = sym (at-pins-at .pins-at .ensures) ∙ at-a .a .given .1 in
     (needs-first pins, rw (← (c .before .before .number .ensures)) (c .if1 .taken))
 
 returns-3 : tie.Need-returns-3
 returns-3 c =
-    let pins-at = c .before .before .before .before .before .before .before .pins-at in
-    let a = c .before .before .before .before .before .a in
-    let pins = sym (pins-at .ensures) ∙ a .given .1 in
+    let at-a = c .before .before .before .before .before in
+    let at-pins-at = at-a .before .before in
+    let pins = sym (at-pins-at .pins-at .ensures) ∙ at-a .a .given .1 in
     (_, needs-first pins, rw (← (c .before .before .before .number .ensures)) (c .if2 .taken))
 
 number-requires-2 : tie.Need-number-requires-2
@@ -54,38 +54,38 @@ cast-second c = search needs
 
 shared-slice-read-second : tie.Need-shared-slice-read-second
 shared-slice-read-second c =
-    let pins-at = c .before .before .before .before .before .before .before .before .before .pins-at in
-    let a = c .before .before .before .before .before .before .before .a in
-    let start = c .before .before .before .before .before .before .before .before .before .before .before .before in
-    let pins = sym (pins-at .ensures) ∙ a .given .1 in
+    let at-a = c .before .before .before .before .before .before .before in
+    let at-pins-at = at-a .before .before in
+    let start = at-pins-at .before .before .before in
+    let pins = sym (at-pins-at .pins-at .ensures) ∙ at-a .a .given .1 in
     omega (arith, start .pre .0 .gates _ _ (needs-second pins), c .before .number2 .ensures)
 
 returns-4 : tie.Need-returns-4
 returns-4 c =
-    let pins-at = c .before .before .before .before .before .before .before .before .before .before .pins-at in
-    let a = c .before .before .before .before .before .before .before .before .a in
-    let pins = sym (pins-at .ensures) ∙ a .given .1 in
+    let at-a = c .before .before .before .before .before .before .before .before in
+    let at-pins-at = at-a .before .before in
+    let pins = sym (at-pins-at .pins-at .ensures) ∙ at-a .a .given .1 in
     (needs-second pins, rw (← (c .before .before .number2 .ensures)) (c .if3 .taken))
 
 returns-5 : tie.Need-returns-5
 returns-5 c =
-    let pins-at = c .before .before .before .before .before .before .before .before .before .before .before .pins-at in
-    let a = c .before .before .before .before .before .before .before .before .before .a in
-    let pins = sym (pins-at .ensures) ∙ a .given .1 in
+    let at-a = c .before .before .before .before .before .before .before .before .before in
+    let at-pins-at = at-a .before .before in
+    let pins = sym (at-pins-at .pins-at .ensures) ∙ at-a .a .given .1 in
     (_, needs-second pins, rw (← (c .before .before .before .number2 .ensures)) (c .if4 .taken))
 
 returns-6 : tie.Need-returns-6
 returns-6 c =
-    let pins-at = c .before .before .before .before .before .before .before .before .before .before .before .pins-at in
-    let a = c .before .before .before .before .before .before .before .before .before .a in
-    let start = c .before .before .before .before .before .before .before .before .before .before .before .before .before .before in
-    let number = c .before .before .before .before .before .before .before .number in
-    let if1 = c .before .before .before .before .before .if1 in
-    let if2 = c .before .before .before .before .if2 in
-    let pins = sym (pins-at .ensures) ∙ a .given .1 in
+    let at-if2 = c .before .before .before .before in
+    let at-if1 = at-if2 .before in
+    let at-number = at-if1 .before .before in
+    let at-a = at-number .before .before in
+    let at-pins-at = at-a .before .before in
+    let start = at-pins-at .before .before .before in
+    let pins = sym (at-pins-at .pins-at .ensures) ∙ at-a .a .given .1 in
     let marks = start .args .marks .now in
     needs-only pins (IsDone marks)
-    (rw (← (number .ensures)) (omega (arith, if1 .left, if2 .left)))
+    (rw (← (at-number .number .ensures)) (omega (arith, at-if1 .if1 .left, at-if2 .if2 .left)))
     (rw (← (c .before .before .before .number2 .ensures)) (omega (arith, c .before .if3 .left, c .if4 .left)))
 
 pub look-spec : {M : Type 1} → statement M

@@ -34,69 +34,70 @@ clear-requires c κs = search needs
 
 on-cycle-requires : tie.Need-on-cycle-requires Inv-loop μ-loop
 on-cycle-requires c κs =
-    let start = c .before .before .before .before .before .before .before .before .before .before .before in
-    let loop = c .before .before .before .before .before .before .before .loop in
-    let clear = c .before .before .before .before .clear in
-    let new = c .before .before .before .before .before .before .new in
+    let at-clear = c .before .before .before .before in
+    let at-new = at-clear .before .before in
+    let at-loop = at-new .before in
+    let start = at-loop .before .before .before .before in
     let pre = start .pre in
-    let inv = loop .inv in
-    (pre .0, still-lent (pre .1) (clear .kept .0 ∙ inv .1) (inv .2), clear .ensures, rw (new .ensures) (passed-low (inv .0) (pre .2)))
+    let inv = at-loop .loop .inv in
+    let lent = still-lent (pre .1) (at-clear .clear .kept .0 ∙ inv .1) (inv .2) in
+    (pre .0, lent, at-clear .clear .ensures, rw (at-new .new .ensures) (passed-low (inv .0) (pre .2)))
 
 same-length : tie.Need-same-length Inv-loop μ-loop
 same-length c =
-    let on-cycle = c .before .before .before .before .before .on-cycle in
-    let clear = c .before .before .before .before .before .before .before .before .before .before .clear in
-    let loop = c .before .before .before .before .before .before .before .before .before .before .before .before .before .loop in
-    on-cycle .kept .1 .0 ∙ clear .kept .0 ∙ loop .inv .1
+    let at-on-cycle = c .before .before .before .before .before in
+    let at-clear = at-on-cycle .before .before .before .before .before in
+    let at-loop = at-clear .before .before .before in
+    at-on-cycle .on-cycle .kept .1 .0 ∙ at-clear .clear .kept .0 ∙ at-loop .loop .inv .1
 
 same-length-2 : tie.Need-same-length-2 Inv-loop μ-loop
 same-length-2 c =
-    let on-cycle = c .before .before .before .before .before .on-cycle in
-    let loop = c .before .before .before .before .before .before .before .before .before .before .before .before .before .loop in
-    on-cycle .kept .1 .1 .0 ∙ loop .inv .2
+    let at-on-cycle = c .before .before .before .before .before in
+    let at-loop = at-on-cycle .before .before .before .before .before .before .before .before in
+    at-on-cycle .on-cycle .kept .1 .1 .0 ∙ at-loop .loop .inv .2
 
 returns : tie.Need-returns Inv-loop μ-loop
 returns c =
-    let new = c .before .before .before .before .before .before .before .before .before .before .before .before .new in
-    let on-cycle = c .before .before .before .before .before .on-cycle in
-    let loop = c .before .before .before .before .before .before .before .before .before .before .before .before .before .loop in
-    let number = ap ofCell (new .ensures) in
+    let at-on-cycle = c .before .before .before .before .before in
+    let at-new = at-on-cycle .before .before .before .before .before .before .before in
+    let at-loop = at-new .before in
+    let number = ap ofCell (at-new .new .ensures) in
     record {
-      on = on-cycle .ensures .holds (c .if1 .taken);
-      below = λ y h. loop .inv .0 .free (ofCell y) (omega arith);
+      on = at-on-cycle .on-cycle .ensures .holds (c .if1 .taken);
+      below = λ y h. at-loop .loop .inv .0 .free (ofCell y) (omega arith);
     }
 
 add-low : tie.Need-add-low Inv-loop μ-loop
 add-low c =
-    let new = c .before .before .before .before .before .before .before .before .before .before .before .before .new in
-    let on-cycle = c .before .before .before .before .before .on-cycle in
-    let loop = c .before .before .before .before .before .before .before .before .before .before .before .before .before .loop in
-    let start = c .before .before .before .before .before .before .before .before .before .before .before .before .before .before .before .before .before in
-    let here = rw (new .ensures) at (on-cycle .ensures .fails (c .if1 .left)) in
-    let more = passed-more (loop .inv .0) here in
+    let at-on-cycle = c .before .before .before .before .before in
+    let at-new = at-on-cycle .before .before .before .before .before .before .before in
+    let at-loop = at-new .before in
+    let start = at-loop .before .before .before .before in
+    let here = rw (at-new .new .ensures) at (at-on-cycle .on-cycle .ensures .fails (c .if1 .left)) in
+    let more = passed-more (at-loop .loop .inv .0) here in
     omega (arith, start .pre .1 .few, passed-low more (start .pre .2))
 
 loop-less : tie.Need-loop-less Inv-loop μ-loop
 loop-less c =
-    let new = c .before .before .before .before .before .before .before .before .before .before .before .before .new in
-    let on-cycle = c .before .before .before .before .before .on-cycle in
-    let loop = c .before .before .before .before .before .before .before .before .before .before .before .before .before .loop in
-    let start = c .before .before .before .before .before .before .before .before .before .before .before .before .before .before .before .before .before in
-    let here = rw (new .ensures) at (on-cycle .ensures .fails (c .if1 .left)) in
-    let more = passed-more (loop .inv .0) here in
+    let at-on-cycle = c .before .before .before .before .before in
+    let at-new = at-on-cycle .before .before .before .before .before .before .before in
+    let at-loop = at-new .before in
+    let start = at-loop .before .before .before .before in
+    let here = rw (at-new .new .ensures) at (at-on-cycle .on-cycle .ensures .fails (c .if1 .left)) in
+    let more = passed-more (at-loop .loop .inv .0) here in
     omega (arith, passed-low more (start .pre .2))
 
 loop-again : tie.Need-loop-again Inv-loop μ-loop
 loop-again c =
-    let new = c .before .before .before .before .before .before .before .before .before .before .before .before .new in
-    let on-cycle = c .before .before .before .before .before .on-cycle in
-    let loop = c .before .before .before .before .before .before .before .before .before .before .before .before .before .loop in
-    let clear = c .before .before .before .before .before .before .before .before .before .before .clear in
-    let here = rw (new .ensures) at (on-cycle .ensures .fails (c .if1 .left)) in
-    let more = passed-more (loop .inv .0) here in
-    let kept = on-cycle .kept .1 in
-    let inv = loop .inv in
-    (more, kept .0 ∙ clear .kept .0 ∙ inv .1, kept .1 .0 ∙ inv .2)
+    let at-on-cycle = c .before .before .before .before .before in
+    let at-clear = at-on-cycle .before .before .before .before .before in
+    let at-new = at-clear .before .before in
+    let at-loop = at-new .before in
+    let here = rw (at-new .new .ensures) at (at-on-cycle .on-cycle .ensures .fails (c .if1 .left)) in
+    let more = passed-more (at-loop .loop .inv .0) here in
+    let kept = at-on-cycle .on-cycle .kept .1 in
+    let inv = at-loop .loop .inv in
+    (more, kept .0 ∙ at-clear .clear .kept .0 ∙ inv .1, kept .1 .0 ∙ inv .2)
 
 pub lowest-spec : {M : Type 1} → statement M
 lowest-spec =

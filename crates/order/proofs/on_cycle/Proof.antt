@@ -27,9 +27,9 @@ expand-requires c κs =
 
 loop-holds : tie.Need-loop-holds Inv-loop μ-loop
 loop-holds c =
-    let start = c .before .before .before .before .before .before .before .before .before .before in
-    let expand = c .before .before .before .before .expand in
-    (between-begins _ (start .pre .1) (start .pre .2) (expand .ensures), refl, refl)
+    let at-expand = c .before .before .before .before in
+    let start = at-expand .before .before .before .before .before .before in
+    (between-begins _ (start .pre .1) (start .pre .2) (at-expand .expand .ensures), refl, refl)
 
 sub-at : tie.Need-sub-at Inv-loop μ-loop
 sub-at c = search needs
@@ -45,11 +45,11 @@ new-requires c κs = search needs
 
 expand-requires-2 : tie.Need-expand-requires-2 Inv-loop μ-loop
 expand-requires-2 c κs =
-    let loop = c .before .before .before .before .before .loop in
-    let start = c .before .before .before .before .before .before .before .before .before .before .before .before .before .before .before .before in
-    let loop-test = c .before .before .before .before .loop-test in
-    let hunting = loop .inv .0 .hunting in
-    (start .pre .0, hunting .lent, omega (arith, loop-test .taken, hunting .room))
+    let at-loop-test = c .before .before .before .before in
+    let at-loop = at-loop-test .before in
+    let start = at-loop .before .before .before .before .before .before .before .before .before .before .before in
+    let hunting = at-loop .loop .inv .0 .hunting in
+    (start .pre .0, hunting .lent, omega (arith, at-loop-test .loop-test .taken, hunting .room))
 
 loop-less : tie.Need-loop-less Inv-loop μ-loop
 loop-less c =
@@ -58,13 +58,14 @@ loop-less c =
 
 loop-again : tie.Need-loop-again Inv-loop μ-loop
 loop-again c =
-    let expand2 = c .before .before .before .before .expand2 in
-    let loop = c .before .before .before .before .before .before .before .before .before .before .loop in
-    let loop-test = c .before .before .before .before .before .before .before .before .before .loop-test in
-    let new = c .before .before .before .before .before .before .before .new in
-    let kept = expand2 .kept .1 in
-    let inv = loop .inv in
-    (goes-on _ (inv .0) (loop-test .taken) (sym (new .ensures)) (expand2 .ensures), kept .0 ∙ inv .1, kept .1 .0 ∙ inv .2)
+    let at-expand2 = c .before .before .before .before in
+    let at-new = at-expand2 .before .before .before in
+    let at-loop-test = at-new .before .before in
+    let at-loop = at-loop-test .before in
+    let kept = at-expand2 .expand2 .kept .1 in
+    let inv = at-loop .loop .inv in
+    let next = goes-on _ (inv .0) (at-loop-test .loop-test .taken) (sym (at-new .new .ensures)) (at-expand2 .expand2 .ensures) in
+    (next, kept .0 ∙ inv .1, kept .1 .0 ∙ inv .2)
 
 number-requires : tie.Need-number-requires Inv-loop μ-loop
 number-requires c κs = search needs
@@ -79,15 +80,15 @@ slice-read-if1 c =
 
 same-length : tie.Need-same-length Inv-loop μ-loop
 same-length c =
-    let loop = c .before .before .before .before .loop in
-    let expand = c .before .before .before .before .before .before .before .before .before .expand in
-    loop .inv .1 ∙ expand .kept .1 .0
+    let at-loop = c .before .before .before .before in
+    let at-expand = at-loop .before .before .before .before .before in
+    at-loop .loop .inv .1 ∙ at-expand .expand .kept .1 .0
 
 same-length-2 : tie.Need-same-length-2 Inv-loop μ-loop
 same-length-2 c =
-    let loop = c .before .before .before .before .loop in
-    let expand = c .before .before .before .before .before .before .before .before .before .expand in
-    loop .inv .2 ∙ expand .kept .1 .1 .0
+    let at-loop = c .before .before .before .before in
+    let at-expand = at-loop .before .before .before .before .before in
+    at-loop .loop .inv .2 ∙ at-expand .expand .kept .1 .1 .0
 
 returns : tie.Need-returns Inv-loop μ-loop
 returns c =
@@ -101,15 +102,15 @@ returns c =
 
 same-length-3 : tie.Need-same-length-3 Inv-loop μ-loop
 same-length-3 c =
-    let loop = c .before .before .before .before .loop in
-    let expand = c .before .before .before .before .before .before .before .before .before .expand in
-    loop .inv .1 ∙ expand .kept .1 .0
+    let at-loop = c .before .before .before .before in
+    let at-expand = at-loop .before .before .before .before .before in
+    at-loop .loop .inv .1 ∙ at-expand .expand .kept .1 .0
 
 same-length-4 : tie.Need-same-length-4 Inv-loop μ-loop
 same-length-4 c =
-    let loop = c .before .before .before .before .loop in
-    let expand = c .before .before .before .before .before .before .before .before .before .expand in
-    loop .inv .2 ∙ expand .kept .1 .1 .0
+    let at-loop = c .before .before .before .before in
+    let at-expand = at-loop .before .before .before .before .before in
+    at-loop .loop .inv .2 ∙ at-expand .expand .kept .1 .1 .0
 
 returns-2 : tie.Need-returns-2 Inv-loop μ-loop
 returns-2 c =

@@ -34,11 +34,11 @@ new-requires c κs = search needs
 
 search-requires : tie.Need-search-requires Inv-loop μ-loop
 search-requires c κs =
-    let start = c .before .before .before .before .before .before .before .before .before .before in
-    let loop = c .before .before .before .before .before .loop in
-    let loop-test = c .before .before .before .before .loop-test in
+    let at-loop-test = c .before .before .before .before in
+    let at-loop = at-loop-test .before in
+    let start = at-loop .before .before .before .before .before in
     let long = length-map (start .args .cells .now) cellIn in
-    (start .pre .0, loop .inv .0 .searching, rw (c .new .ensures) (omega (arith, loop-test .taken)))
+    (start .pre .0, at-loop .loop .inv .0 .searching, rw (c .new .ensures) (omega (arith, at-loop-test .loop-test .taken)))
 
 enum-known-n : tie.Need-enum-known-n Inv-loop μ-loop
 enum-known-n c = search needs
@@ -48,21 +48,21 @@ enum-told c = search needs
 
 same-length : tie.Need-same-length Inv-loop μ-loop
 same-length c =
-    let search = c .before .before .before .before .before .before .before .before .search in
-    let loop = c .before .before .before .before .before .before .before .before .before .before .before .before .before .before .loop in
-    search .kept .1 .0 ∙ loop .inv .1
+    let at-search = c .before .before .before .before .before .before .before .before in
+    let at-loop = at-search .before .before .before .before .before .before in
+    at-search .search .kept .1 .0 ∙ at-loop .loop .inv .1
 
 same-length-2 : tie.Need-same-length-2 Inv-loop μ-loop
 same-length-2 c =
-    let search = c .before .before .before .before .before .before .before .before .search in
-    let loop = c .before .before .before .before .before .before .before .before .before .before .before .before .before .before .loop in
-    search .kept .1 .1 .0 ∙ loop .inv .2
+    let at-search = c .before .before .before .before .before .before .before .before in
+    let at-loop = at-search .before .before .before .before .before .before in
+    at-search .search .kept .1 .1 .0 ∙ at-loop .loop .inv .2
 
 same-length-3 : tie.Need-same-length-3 Inv-loop μ-loop
 same-length-3 c =
-    let search = c .before .before .before .before .before .before .before .before .search in
-    let loop = c .before .before .before .before .before .before .before .before .before .before .before .before .before .before .loop in
-    search .kept .1 .1 .1 .0 ∙ loop .inv .3
+    let at-search = c .before .before .before .before .before .before .before .before in
+    let at-loop = at-search .before .before .before .before .before .before in
+    at-search .search .kept .1 .1 .1 .0 ∙ at-loop .loop .inv .3
 
 returns : tie.Need-returns Inv-loop μ-loop
 returns c =
@@ -74,17 +74,17 @@ add-i c = search needs
 
 loop-less : tie.Need-loop-less Inv-loop μ-loop
 loop-less c =
-    let loop-test = c .before .before .before .before .before .before .before .before .before .before .before .before .before .before .loop-test in
-    omega (arith, loop-test .taken)
+    let at-loop-test = c .before .before .before .before .before .before .before .before .before .before .before .before .before .before in
+    omega (arith, at-loop-test .loop-test .taken)
 
 loop-again : tie.Need-loop-again Inv-loop μ-loop
 loop-again c =
-    let new = c .before .before .before .before .before .before .before .before .before .before .new in
-    let search = c .before .before .before .before .before .before .before .before .before .search in
-    let loop = c .before .before .before .before .before .before .before .before .before .before .before .before .before .before .before .loop in
-    let through = rw (c .before .n .given .1, new .ensures) at (search .ensures) in
-    let kept = search .kept .1 in
-    let inv = loop .inv in
+    let at-search = c .before .before .before .before .before .before .before .before .before in
+    let at-new = at-search .before in
+    let at-loop = at-new .before .before .before .before .before in
+    let through = rw (c .before .n .given .1, at-new .new .ensures) at (at-search .search .ensures) in
+    let kept = at-search .search .kept .1 in
+    let inv = at-loop .loop .inv in
     (upto-more (inv .0) through, kept .0 ∙ inv .1, kept .1 .0 ∙ inv .2, kept .1 .1 .0 ∙ inv .3)
 
 same-length-4 : tie.Need-same-length-4 Inv-loop μ-loop

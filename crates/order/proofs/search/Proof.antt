@@ -55,9 +55,9 @@ loop-holds c =
 
 advance-requires : tie.Need-advance-requires Inv-loop μ-loop
 advance-requires c κs =
-    let start = c .before .before .before .before .before .before .before .before .before .before .before .before in
-    let loop = c .before .before .before .before .loop in
-    (start .pre .0, loop .inv .0 .searching, c .before .before .before .loop-test .taken)
+    let at-loop = c .before .before .before .before in
+    let start = at-loop .before .before .before .before .before .before .before .before in
+    (start .pre .0, at-loop .loop .inv .0 .searching, c .before .before .before .loop-test .taken)
 
 enum-known-t : tie.Need-enum-known-t Inv-loop μ-loop
 enum-known-t c = search needs
@@ -67,27 +67,27 @@ enum-told c = search needs
 
 same-length : tie.Need-same-length Inv-loop μ-loop
 same-length c =
-    let start = c .before .before .before .before .before .before .before .before .before .before .before .before .before .before .before .before .before .before .before .before .before in
-    let advance = c .before .before .before .before .before .before .before .before .advance in
-    let loop = c .before .before .before .before .before .before .before .before .before .before .before .before .before .loop in
-    let number = c .before .before .before .before .before .before .before .before .before .before .before .before .before .before .before .before .number in
+    let at-advance = c .before .before .before .before .before .before .before .before in
+    let at-loop = at-advance .before .before .before .before .before in
+    let at-number = at-loop .before .before .before in
+    let start = at-number .before .before .before .before .before in
     let args = start .args in
-    advance .kept .1 .0 ∙ loop .inv .1 ∙ length-set (args .marks .now) (number .result) 1
+    at-advance .advance .kept .1 .0 ∙ at-loop .loop .inv .1 ∙ length-set (args .marks .now) (at-number .number .result) 1
 
 same-length-2 : tie.Need-same-length-2 Inv-loop μ-loop
 same-length-2 c =
-    let start = c .before .before .before .before .before .before .before .before .before .before .before .before .before .before .before .before .before .before .before .before .before in
-    let advance = c .before .before .before .before .before .before .before .before .advance in
-    let loop = c .before .before .before .before .before .before .before .before .before .before .before .before .before .loop in
-    let number = c .before .before .before .before .before .before .before .before .before .before .before .before .before .before .before .before .number in
+    let at-advance = c .before .before .before .before .before .before .before .before in
+    let at-loop = at-advance .before .before .before .before .before in
+    let at-number = at-loop .before .before .before in
+    let start = at-number .before .before .before .before .before in
     let args = start .args in
-    advance .kept .1 .1 .0 ∙ loop .inv .2 ∙ length-set (args .stack .now) 0 (number .result)
+    at-advance .advance .kept .1 .1 .0 ∙ at-loop .loop .inv .2 ∙ length-set (args .stack .now) 0 (at-number .number .result)
 
 same-length-3 : tie.Need-same-length-3 Inv-loop μ-loop
 same-length-3 c =
-    let advance = c .before .before .before .before .before .before .before .before .advance in
-    let loop = c .before .before .before .before .before .before .before .before .before .before .before .before .before .loop in
-    advance .kept .1 .1 .1 .0 ∙ loop .inv .3
+    let at-advance = c .before .before .before .before .before .before .before .before in
+    let at-loop = at-advance .before .before .before .before .before in
+    at-advance .advance .kept .1 .1 .1 .0 ∙ at-loop .loop .inv .3
 
 returns-2 : tie.Need-returns-2 Inv-loop μ-loop
 returns-2 c =
@@ -102,35 +102,35 @@ loop-less c =
 
 loop-again : tie.Need-loop-again Inv-loop μ-loop
 loop-again c =
-    let advance = c .before .before .before .before .before .before .before .before .before .advance in
-    let loop = c .before .before .before .before .before .before .before .before .before .before .before .before .before .before .loop in
-    let went = rw (c .before .t .given .1) at (advance .ensures) in
-    let kept = advance .kept .1 in
-    let inv = loop .inv in
+    let at-advance = c .before .before .before .before .before .before .before .before .before in
+    let at-loop = at-advance .before .before .before .before .before in
+    let went = rw (c .before .t .given .1) at (at-advance .advance .ensures) in
+    let kept = at-advance .advance .kept .1 in
+    let inv = at-loop .loop .inv in
     (under-goes-on (inv .0) went, kept .0 ∙ inv .1, kept .1 .0 ∙ inv .2, kept .1 .1 .0 ∙ inv .3)
 
 same-length-4 : tie.Need-same-length-4 Inv-loop μ-loop
 same-length-4 c =
-    let start = c .before .before .before .before .before .before .before .before .before in
-    let number = c .before .before .before .before .number in
-    c .before .loop .inv .1 ∙ length-set (start .args .marks .now) (number .result) 1
+    let at-number = c .before .before .before .before in
+    let start = at-number .before .before .before .before .before in
+    c .before .loop .inv .1 ∙ length-set (start .args .marks .now) (at-number .number .result) 1
 
 same-length-5 : tie.Need-same-length-5 Inv-loop μ-loop
 same-length-5 c =
-    let start = c .before .before .before .before .before .before .before .before .before in
-    let number = c .before .before .before .before .number in
-    c .before .loop .inv .2 ∙ length-set (start .args .stack .now) 0 (number .result)
+    let at-number = c .before .before .before .before in
+    let start = at-number .before .before .before .before .before in
+    c .before .loop .inv .2 ∙ length-set (start .args .stack .now) 0 (at-number .number .result)
 
 same-length-6 : tie.Need-same-length-6 Inv-loop μ-loop
 same-length-6 c = c .before .loop .inv .3
 
 returns-3 : tie.Need-returns-3 Inv-loop μ-loop
 returns-3 c =
-    let start = c .before .before .before .before .before .before .before .before .before in
-    let number = c .before .before .before .before .number in
+    let at-number = c .before .before .before .before in
+    let start = at-number .before .before .before .before .before in
     let pre = start .pre in
     let none : c .before .loop .top ≡ 0 = omega (arith, c .loop-test .left) in
-    under-ends _ (omega (arith, pre .2, pre .1 .lent .wide)) (rw (none, number .ensures) at (c .before .loop .inv .0))
+    under-ends _ (omega (arith, pre .2, pre .1 .lent .wide)) (rw (none, at-number .number .ensures) at (c .before .loop .inv .0))
 
 pub search-spec : {M : Type 1} → statement M
 search-spec =
