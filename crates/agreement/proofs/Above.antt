@@ -15,7 +15,7 @@ use Rattle.cells.specs.declared.Cell.{Cell}
 use Rattle.cells.specs.Cells.{low}
 use Rattle.cells.specs.declared.Gate.the-variants.{Or, Butnot}
 use Rattle.gates.specs.Folding.{New, orAt, butnotAt}
-use Rattle.gates.specs.Rows.{code, pairs, onlyIf, Highest, highest, parallelRow}
+use Rattle.gates.specs.Rows.{code, pairs, onlyIf, NewCodes, highest, parallelRow}
 use Rattle.gates.proofs.ParallelRow.{pairs-at}
 use Rattle.agreement.proofs.ParallelRuns.{least}
 use Rattle.agreement.proofs.Nets.{Solved, solved-left, solved-right, gate-value, if-value}
@@ -79,7 +79,7 @@ module _ (cells : List Cell) (J : Signals) (S : State) (v : CellNo → Bool) (ze
   abbrev nets : List CellNo → Codes
   nets ks j = v (code ks j)
 
-  record HighestIs (keep : Codes) (cs : List (CellNo × CellNo)) (r : Highest) : Type 0 where
+  record HighestIs (keep : Codes) (cs : List (CellNo × CellNo)) (r : NewCodes) : Type 0 where
     codes : (j : ℕ) → nets (r .nets) j ≡ (keep j && (either cs j && not (nets (r .above) (suc j))))
     from : FromOn (either cs) (nets (r .above))
 
@@ -94,7 +94,7 @@ module _ (cells : List Cell) (J : Signals) (S : State) (v : CellNo → Bool) (ze
   unfolding highest
   highest-is [] n keep h = record { codes = λ j. rw (zero-low, and-false); from = no-codes }
   highest-is (c ∷ cs) n keep h =
-      let r : Highest = highest n (λ j. keep (suc j)) cs in
+      let r : NewCodes = highest n (λ j. keep (suc j)) cs in
       let x : CellNo = code (r .above) 0 in
       let n₁ : ℕ = n + length (r .cells) in
       let m : New = orAt n₁ (c .0) (c .1) in
@@ -116,11 +116,11 @@ module _ (cells : List Cell) (J : Signals) (S : State) (v : CellNo → Bool) (ze
         from = next-from (either (c ∷ cs)) (nets (r .above)) (nets (y .net ∷ r .above)) (rest .from) (rw m-is at y-is) (λ j. refl);
       }
 
-  pub record ParallelIs (keep : Codes) (ps qs : List CellNo) (r : Highest) : Type 0 where
+  pub record ParallelIs (keep : Codes) (ps qs : List CellNo) (r : NewCodes) : Type 0 where
     pub codes : (j : ℕ) → v (code (r .nets) j) ≡ (keep j && ((v (code ps j) || v (code qs j)) && not (v (code (r .above) j))))
     pub above : Above (λ j. v (code ps j) || v (code qs j)) (λ j. v (code (r .above) j))
 
-  record RowIs (keep : Codes) (cs : List (CellNo × CellNo)) (r : Highest) : Type 0 where
+  record RowIs (keep : Codes) (cs : List (CellNo × CellNo)) (r : NewCodes) : Type 0 where
     codes : (j : ℕ) → nets (r .nets) j ≡ (keep j && (either cs j && not (nets (r .above) j)))
     above : Above (either cs) (nets (r .above))
 
@@ -129,7 +129,7 @@ module _ (cells : List Cell) (J : Signals) (S : State) (v : CellNo → Bool) (ze
   unfolding parallelRow
   row-is [] n keep h = record { codes = λ j. rw (zero-low, and-false); above = from-above (λ i. v low || v low) (λ j. v low) no-codes }
   row-is (c ∷ cs) n keep h =
-      let r : Highest = highest n (λ j. keep (suc j)) cs in
+      let r : NewCodes = highest n (λ j. keep (suc j)) cs in
       let x : CellNo = code (r .above) 0 in
       let n₁ : ℕ = n + length (r .cells) in
       let m : New = orAt n₁ (c .0) (c .1) in

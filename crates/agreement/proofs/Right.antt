@@ -28,7 +28,7 @@ use Rattle.cells.specs.Cells.{low, signalCell, cellAt}
 use Rattle.cells.specs.Values.{before}
 use Rattle.cells.specs.declared.Gate.the-variants.{Or, And, Butnot}
 use Rattle.gates.specs.Folding.{New, orAt, andAt, butnotAt}
-use Rattle.gates.specs.Rows.{code, withCode0, Row, orRow, trapRow, pairs, Highest, parallelRow, killOf}
+use Rattle.gates.specs.Rows.{code, withCode0, NewRow, orRow, trapRow, pairs, NewCodes, parallelRow, killOf}
 use Rattle.gates.proofs.OrRow.{with-code0-at, trap-at}
 use Rattle.parts.specs.Equations.{Built, listOf, past, given, buildExit, buildEmit, buildHalt, buildSequence, buildLoop, buildPresent, buildWatching}
 use Rattle.parts.specs.Equations.{buildParallel, buildTrap}
@@ -233,7 +233,7 @@ module _ (cells : List Cell) (J : Signals) (S : State) (v : CellNo → Bool) (ze
     unfolding buildSequence active inHalts
     sequence-right apart w rp rq h =
         let ks : List CellNo = withCode0 low (a .codes) in
-        let c : Row = orRow (n₃ n a b) ks (b .codes) in
+        let c : NewRow = orRow (n₃ n a b) ks (b .codes) in
         let row : (j : ℕ) → v (code (c .nets) j) ≡ (v (code ks j) || v (code (b .codes) j)) =
         row-value cells J S v zero-low ks (b .codes) (n₃ n a b) (past-sels n a b (c .cells) h) in
         record {
@@ -258,7 +258,7 @@ module _ (cells : List Cell) (J : Signals) (S : State) (v : CellNo → Bool) (ze
         let x : New = andAt n g (signalCell s) in
         let y : New = butnotAt (past n x) g (signalCell s) in
         let m : ℕ = past (past n x) y in
-        let c : Row = orRow (n₃ m a b) (a .codes) (b .codes) in
+        let c : NewRow = orRow (n₃ m a b) (a .codes) (b .codes) in
         let parts : List Cell = a .cells ++ (b .cells ++ ((sels m a b) .cells ++ c .cells)) in
         let past-x : At (past n x) (y .cells ++ parts) = solved-right cells J S v (x .cells) (y .cells ++ parts) n h in
         let past-y : At m parts = solved-right cells J S v (y .cells) parts (past n x) past-x in
@@ -287,7 +287,7 @@ module _ (cells : List Cell) (J : Signals) (S : State) (v : CellNo → Bool) (ze
     unfolding buildParallel active inHalts Solved
     parallel-right apart w rp rq h =
         let keep : Codes = given (two Parallel p q) in
-        let c : Highest = parallelRow (n₃ (suc n) a b) keep (pairs (a .codes) (b .codes)) in
+        let c : NewCodes = parallelRow (n₃ (suc n) a b) keep (pairs (a .codes) (b .codes)) in
         let row : ParallelIs cells J S v zero-low keep (a .codes) (b .codes) c =
         parallel-is cells J S v zero-low (a .codes) (b .codes) (n₃ (suc n) a b) keep (past-sels (suc n) a b (c .cells) (h .1)) in
         let x : Bool = v (killOf c) in

@@ -18,7 +18,7 @@ use Rattle.sets.specs.Codes.{empty, join}
 use Rattle.rules.specs.Rules.{Halts, onlyHalt, active}
 use Rattle.rules.proofs.Again.{On, on-left, on-right}
 use Rattle.berry.specs.Haltsets.{recovering, recovered}
-use Rattle.berry.specs.Modules.{body, haltsets, Among, FromHaltset}
+use Rattle.berry.specs.Modules.{body, haltsets, OneOf, FromHaltset}
 use Rattle.berry.proofs.Faithfulness.{body-numbered}
 
 active-alike : (H G : Halts) (t : Stmt) → On t H G → active H t ≡ active G t
@@ -56,30 +56,30 @@ recovered-alike H G t f = rw (active-alike H G t f, recovering-alike H G t f)
 
 -- what is among a list
 module _ {A : Type 0} where
-  among-first : (x : A) (xs ys : List A) → Among x xs → Among x (xs ++ ys)
-  unfolding Among
+  among-first : (x : A) (xs ys : List A) → OneOf x xs → OneOf x (xs ++ ys)
+  unfolding OneOf
   among-first x [] ys i = absurd i
   among-first x (y ∷ xs) ys i = ⊎-elim (λ e. inl e) (λ r. inr (among-first x xs ys r)) i
 
-  among-second : (x : A) (xs ys : List A) → Among x ys → Among x (xs ++ ys)
-  unfolding Among
+  among-second : (x : A) (xs ys : List A) → OneOf x ys → OneOf x (xs ++ ys)
+  unfolding OneOf
   among-second x [] ys i = i
   among-second x (y ∷ xs) ys i = inr (among-second x xs ys i)
 
-among-map : {A B : Type 0} (f : A → B) (x : A) (xs : List A) → Among x xs → Among (f x) (map f xs)
-unfolding Among
+among-map : {A B : Type 0} (f : A → B) (x : A) (xs : List A) → OneOf x xs → OneOf (f x) (map f xs)
+unfolding OneOf
 among-map f x [] i = absurd i
 among-map f x (y ∷ xs) i = ⊎-elim (λ e. inl (ap f e)) (λ r. inr (among-map f x xs r)) i
 
 -- every haltset has the halts below n of a haltset in the list, which has no others
 record Listed (n : ℕ) (H : Halts) : Type 0 where
   haltset : Halts
-  among : Among haltset (haltsets n)
+  among : OneOf haltset (haltsets n)
   alike : (h : HaltNo) → ofHalt h < n → H h ≡ haltset h
   beyond : (h : HaltNo) → n ≤ ofHalt h → haltset h ≡ false
 
 listed : (n : ℕ) (H : Halts) → Listed n H
-unfolding haltsets Among
+unfolding haltsets OneOf
 listed zero H = record { haltset = empty; among = inl refl; alike = λ h l. absurd (omega arith); beyond = λ h l. refl }
 listed (suc n) H = more (H (haltNo n)) refl (listed n H)
   where

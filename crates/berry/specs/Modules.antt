@@ -124,10 +124,10 @@ unfoldable pub haltsets : ℕ → List Halts
 haltsets zero = empty ∷ []
 haltsets (suc n) = haltsets n ++ map (λ H. join H (onlyHalt (haltNo n))) (haltsets n)
 
-unfoldable pub Among : {A : Type 0} → A → List A → Type 0
-Among x [] = ⊥
-Among x (y ∷ ys) = (x ≡ y) ⊎ Among x ys
+unfoldable pub OneOf : {A : Type 0} → A → List A → Type 0
+OneOf x [] = ⊥
+OneOf x (y ∷ ys) = (x ≡ y) ⊎ OneOf x ys
 
 -- one of the finitely many statements that are recovered from a haltset of 004's body
 abbrev pub FromHaltset : Stmt → Stmt → Type 0
-FromHaltset t p = Among p (map (λ H. recovered H (body t)) (haltsets (1 + haltCount t)))
+FromHaltset t p = OneOf p (map (λ H. recovered H (body t)) (haltsets (1 + haltCount t)))

@@ -18,7 +18,7 @@ use Rattle.cells.specs.Cells.{low, signalCell}
 use Rattle.cells.specs.declared.Gate.the-variants.{Or, And, Butnot}
 use Rattle.cells.proofs.Within.{AllWithin, none-within, append-within}
 use Rattle.gates.specs.Folding.{New, orAt, andAt, butnotAt}
-use Rattle.gates.specs.Rows.{code, withCode0, Row, orRow, pairs, Highest, parallelRow}
+use Rattle.gates.specs.Rows.{code, withCode0, NewRow, orRow, pairs, NewCodes, parallelRow}
 use Rattle.gates.proofs.Operands.{NetsBelow, gate-within, only-within, with-code0-within, trap-within, or-row-within, parallel-row-within}
 use Rattle.parts.specs.Equations.{Built, listOf, past, given, buildExit, buildEmit, buildHalt, build, buildSequence, buildLoop, buildPresent, buildWatching}
 use Rattle.parts.specs.Equations.{buildParallel, buildTrap}
@@ -135,7 +135,7 @@ module _ (s m : ℕ) where
       let n₂ : ℕ = n + length (p .cells) + length (q .cells) in
       let z : New = orAt n₂ (p .sel) (q .sel) in
       let ps : List CellNo = withCode0 low (p .codes) in
-      let c : Row = orRow (past n₂ z) ps (q .codes) in
+      let c : NewRow = orRow (past n₂ z) ps (q .codes) in
       let l₁ : length (p .cells ++ (q .cells ++ (z .cells ++ c .cells))) ≡ length (p .cells) + length (q .cells ++ (z .cells ++ c .cells)) =
       length-append (p .cells) (q .cells ++ (z .cells ++ c .cells)) in
       let l₂ : length (q .cells ++ (z .cells ++ c .cells)) ≡ length (q .cells) + length (z .cells ++ c .cells) = length-append (q .cells)
@@ -161,7 +161,7 @@ module _ (s m : ℕ) where
   present-within k n x y p q hx hy place f f′ h =
       let n₂ : ℕ = n + length (p .cells) + length (q .cells) in
       let z : New = orAt n₂ (p .sel) (q .sel) in
-      let c : Row = orRow (past n₂ z) (p .codes) (q .codes) in
+      let c : NewRow = orRow (past n₂ z) (p .codes) (q .codes) in
       let rest : List Cell = q .cells ++ (z .cells ++ c .cells) in
       let l₀ : length (x .cells ++ (y .cells ++ (p .cells ++ rest))) ≡ length (x .cells) + length (y .cells ++ (p .cells ++ rest)) =
       length-append (x .cells) (y .cells ++ (p .cells ++ rest)) in
@@ -189,7 +189,7 @@ module _ (s m : ℕ) where
   parallel-within n i keep p q hi f f′ h =
       let n₂ : ℕ = suc n + length (p .cells) + length (q .cells) in
       let z : New = orAt n₂ (p .sel) (q .sel) in
-      let c : Highest = parallelRow (past n₂ z) keep (pairs (p .codes) (q .codes)) in
+      let c : NewCodes = parallelRow (past n₂ z) keep (pairs (p .codes) (q .codes)) in
       let l₁ : length (p .cells ++ (q .cells ++ (z .cells ++ c .cells))) ≡ length (p .cells) + length (q .cells ++ (z .cells ++ c .cells)) =
       length-append (p .cells) (q .cells ++ (z .cells ++ c .cells)) in
       let l₂ : length (q .cells ++ (z .cells ++ c .cells)) ≡ length (q .cells) + length (z .cells ++ c .cells) = length-append (q .cells)

@@ -26,7 +26,7 @@ use Rattle.cells.specs.declared.Cell.the-variants.{Low, High, Input, Gate, Regi
 use Rattle.cells.specs.declared.Gate.the-variants.{Or, Butnot}
 use Rattle.cells.specs.Cells.{low, high}
 use Rattle.cells.specs.Words.{word}
-use Rattle.gates.specs.Store.{Wrote}
+use Rattle.gates.specs.Store.{WroteCells}
 use Rattle.gates.proofs.Laws.{wrote-more, set-below}
 use Rattle.parts.specs.declared.Returned.{Returned}
 use Rattle.parts.specs.Equations.{Built, listOf}
@@ -34,16 +34,16 @@ use Rattle.parts.specs.Contract.{nets, Builds, UnaryNamed, BinaryNamed}
 use Rattle.builder.specs.declared.NetlistBuilt.{NetlistBuilt}
 use Rattle.builder.specs.declared.NetlistBuilt.the-variants.{Cells, Refused}
 use Rattle.builder.specs.Netlist.{inputCells, signalCells, rootOf, bootCells, netlist}
-use Rattle.builder.specs.Walking.{Named, Fit, Buildable, Task, Does}
+use Rattle.builder.specs.Walking.{Named, InShape, Buildable, Task, Does}
 use Rattle.builder.specs.Contract.{OfSheet, SomeSheet, roomFor, Whole, DoesNetlist}
 
 -- The loops: what is left to be written, once written, makes the whole. First that over the inputs, at signal s:
-pub record Inputs (l₀ l : List ℕ) (I s : ℕ) : Type 0 where
+pub record InputLoop (l₀ l : List ℕ) (I s : ℕ) : Type 0 where
   pub least : 1 ≤ s
   pub most : s ≤ I + 1
   pub rest : sets l (suc s) (map word (inputCells s (I + 1 - s))) ≡ sets l₀ 2 (map word (inputCells 1 I))
 
-pub inputs-start : (l : List ℕ) (I : ℕ) → Inputs l l I 1
+pub inputs-start : (l : List ℕ) (I : ℕ) → InputLoop l l I 1
 inputs-start l I = let all : I + 1 - 1 ≡ I = omega arith in record { least = omega arith; most = omega arith; rest = rw all refl }
 
 one-input : (l : List ℕ) (s k : ℕ)
@@ -51,7 +51,7 @@ one-input : (l : List ℕ) (s k : ℕ)
 unfolding inputCells
 one-input l s k = refl
 
-pub inputs-step : {l₀ l l′ : List ℕ} {I s : ℕ} → Inputs l₀ l I s → s ≤ I → l′ ≡ set l (suc s) (word (Input (signalNo s))) → Inputs l₀ l′ I (s + 1)
+pub inputs-step : {l₀ l l′ : List ℕ} {I s : ℕ} → InputLoop l₀ l I s → s ≤ I → l′ ≡ set l (suc s) (word (Input (signalNo s))) → InputLoop l₀ l′ I (s + 1)
 inputs-step {l₀} {l} {l′} {I} {s} h more e =
     let left : I + 1 - s ≡ suc (I - s) = omega arith in
     let next : I + 1 - suc s ≡ I - s = omega arith in
@@ -65,15 +65,15 @@ none-left : (l : List ℕ) (I s : ℕ) → I < s → sets l (suc s) (map word (i
 unfolding inputCells
 none-left l I s h = let none : I + 1 - s ≡ 0 = omega arith in rw none refl
 
-pub inputs-end : {l₀ l : List ℕ} {I s : ℕ} → Inputs l₀ l I s → I < s → l ≡ sets l₀ 2 (map word (inputCells 1 I))
+pub inputs-end : {l₀ l : List ℕ} {I s : ℕ} → InputLoop l₀ l I s → I < s → l ≡ sets l₀ 2 (map word (inputCells 1 I))
 inputs-end {l₀} {l} {I} {s} h past = sym (none-left l I s past) ∙ h .rest
 
-pub inputs-length : {l₀ l : List ℕ} {I s : ℕ} → Inputs l₀ l I s → length l ≡ length l₀
+pub inputs-length : {l₀ l : List ℕ} {I s : ℕ} → InputLoop l₀ l I s → length l ≡ length l₀
 inputs-length {l₀} {l} {I} {s} h =
     sym (length-sets l (suc s) (map word (inputCells s (I + 1 - s)))) ∙ ap length (h .rest) ∙ length-sets l₀ 2 (map word (inputCells 1 I))
 
 -- then that over the other signals
-pub record Signals (L : List CellNo) (l₀ l : List ℕ) (from end s : ℕ) : Type 0 where
+pub record SignalLoop (L : List CellNo) (l₀ l : List ℕ) (from end s : ℕ) : Type 0 where
   pub rest : sets l (suc s) (map word (signalCells L s (end - s))) ≡ sets l₀ (suc from) (map word (signalCells L from (end - from)))
 
 one-signal : (L : List CellNo) (l : List ℕ) (s k : ℕ)
@@ -86,8 +86,8 @@ no-signal : (L : List CellNo) (l : List ℕ) (end s : ℕ) → end ≤ s → set
 unfolding signalCells
 no-signal L l end s h = let none : end - s ≡ 0 = omega arith in rw none refl
 
-module _ {L : List CellNo} {l₀ l : List ℕ} {from end s : ℕ} (h : Signals L l₀ l from end s) where
-  pub signals-step : {l′ : List ℕ} → s < end → l′ ≡ set l (suc s) (word (Gate Or (listOf L (signalNo s)) low)) → Signals L l₀ l′ from end (s + 1)
+module _ {L : List CellNo} {l₀ l : List ℕ} {from end s : ℕ} (h : SignalLoop L l₀ l from end s) where
+  pub signals-step : {l′ : List ℕ} → s < end → l′ ≡ set l (suc s) (word (Gate Or (listOf L (signalNo s)) low)) → SignalLoop L l₀ l′ from end (s + 1)
   signals-step {l′} more e =
       let left : end - s ≡ suc (end - suc s) = omega arith in
       record { rest = rw (add-one s, e) (one-signal L l s (end - suc s) ∙ (rw left at (h .rest))) }
@@ -131,7 +131,7 @@ head-wrote I n l e₁ e₂ e₃ e₄ e₅ = let next : 2 + n ≡ suc (1 + n) = o
 -- the head, the root and the foot
 whole-wrote : (I U : ℕ) (t : Stmt) {l l₁ l₂ l₃ ls : List ℕ} {b : Returned}
     → l₁ ≡ sets (withInputs I l) (1 + (1 + I + U)) (map word (bootCells (1 + I + U))) → Builds (rootOf (1 + I + U) t) l₁ l₂ ls (3 + (1 + I + U)) b
-    → l₃ ≡ sets l₂ (2 + I) (map word (signalCells (nets ls) (1 + I) U)) → Wrote l l₃ 0 (b .count) (netlist I U t)
+    → l₃ ≡ sets l₂ (2 + I) (map word (signalCells (nets ls) (1 + I) U)) → WroteCells l l₃ 0 (b .count) (netlist I U t)
 unfolding netlist
 whole-wrote I U t {l} {l₁} {l₂} {l₃} {b = r} head b foot =
     let before : List ℕ = withInputs I l in
@@ -139,10 +139,10 @@ whole-wrote I U t {l} {l₁} {l₂} {l₃} {b = r} head b foot =
     let S : List Cell = signalCells (root .lists) (1 + I) U in
     let C : List Cell = bootCells (1 + I + U) ++ root .cells in
     let with-S : List ℕ = sets before (2 + I) (map word S) in
-    let inputs : Wrote l before 0 (2 + I) (Low ∷ (High ∷ inputCells 1 I)) = record { stored = refl; counted = omega (arith, length-inputs 1 I) } in
-    let boot : Wrote before l₁ (1 + (1 + I + U)) (3 + (1 + I + U)) (bootCells (1 + I + U)) = record { stored = head; counted = omega arith } in
-    let rest : Wrote before l₂ (1 + (1 + I + U)) (r .count) C = wrote-more boot (b .wrote) in
-    let signals : Wrote before with-S (2 + I) (1 + (1 + I + U)) S = record { stored = refl; counted = omega (arith, length-signals (root .lists) (1 + I) U) } in
+    let inputs : WroteCells l before 0 (2 + I) (Low ∷ (High ∷ inputCells 1 I)) = record { stored = refl; counted = omega (arith, length-inputs 1 I) } in
+    let boot : WroteCells before l₁ (1 + (1 + I + U)) (3 + (1 + I + U)) (bootCells (1 + I + U)) = record { stored = head; counted = omega arith } in
+    let rest : WroteCells before l₂ (1 + (1 + I + U)) (r .count) C = wrote-more boot (b .wrote) in
+    let signals : WroteCells before with-S (2 + I) (1 + (1 + I + U)) S = record { stored = refl; counted = omega (arith, length-signals (root .lists) (1 + I) U) } in
     let few : 2 + I + length (map word S) ≤ 1 + (1 + I + U) = omega (arith, length-map S word, length-signals (root .lists) (1 + I) U) in
     let last : l₃ ≡ sets with-S (1 + (1 + I + U)) (map word C) =
     foot ∙ rw (b .lists, rest .stored) (sets-first before (2 + I) (1 + (1 + I + U)) (map word C) (map word S) few) in
@@ -157,7 +157,7 @@ pub not-over : (k : ℕ) → manyCells k ≡ false → Cells k ≡ roomFor k
 unfolding roomFor pick
 not-over k h = rw h refl
 
-whole : {cs : List Cell} {l l′ : List ℕ} {count : ℕ} {r : NetlistBuilt} → Wrote l l′ 0 count cs → r ≡ roomFor count → Whole cs l l′ r
+whole : {cs : List Cell} {l l′ : List ℕ} {count : ℕ} {r : NetlistBuilt} → WroteCells l l′ 0 count cs → r ≡ roomFor count → Whole cs l l′ r
 whole {cs} {count = count} w e = let all : count ≡ length cs = omega (arith, w .counted) in record { answer = e ∙ ap roomFor all; stored = w .stored }
 
 -- What the code asks of a statement is so of a sheet's.
@@ -182,7 +182,7 @@ named i n (two b p q) h c = (binary b (c .0), named i n p h (c .1), named i n q 
     binary Parallel c = tt
 
 module _ {rows ms : List ℕ} {I n O : ℕ} {t : Stmt} (is : OfSheet rows ms I n O t) where
-  pub sheet-fit : Fit ms (stmtNo 0) t
+  pub sheet-fit : InShape ms (stmtNo 0) t
   sheet-fit =
       record {
         low = exits-low 0 t (omega arith) (proper-exits (is .proper));

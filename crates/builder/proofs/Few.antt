@@ -19,7 +19,7 @@ use Rattle.cells.specs.declared.Cell.the-variants.{Gate}
 use Rattle.cells.specs.Cells.{low, signalCell}
 use Rattle.cells.specs.declared.Gate as gate
 use Rattle.gates.specs.Folding.{New, gateAt, orAt, andAt, butnotAt}
-use Rattle.gates.specs.Rows.{code, only, withCode0, trapRow, Row, orRow, pairs, onlyIf, Level, levelAt, lastAt, Highest, highest, parallelRow}
+use Rattle.gates.specs.Rows.{code, only, withCode0, trapRow, NewRow, orRow, pairs, onlyIf, NewCode, levelAt, lastAt, NewCodes, highest, parallelRow}
 use Rattle.gates.proofs.Laws.{by-folding}
 use Rattle.gates.proofs.ParallelRow.{pairs-length}
 use Rattle.parts.specs.Contract.{ownCells}
@@ -46,7 +46,7 @@ or-row-few [] qs n = omega arith
 or-row-few (p ∷ ps) [] n = omega arith
 or-row-few (p ∷ ps) (q ∷ qs) n =
     let o : New = orAt n p q in
-    let r : Row = orRow (past n o) ps qs in
+    let r : NewRow = orRow (past n o) ps qs in
     omega (arith, length-append (o .cells) (r .cells), gate-few Or n p q, or-row-few ps qs (past n o))
 
 or-row-long : (ps qs : List CellNo) (n : ℕ) → length ps ≡ length qs → length ((orRow n ps qs) .nets) ≡ length ps
@@ -86,7 +86,7 @@ last-few n keep p q x =
     )
 
 -- at most m cells, and k nets
-record HighestFew (m k : ℕ) (h : Highest) : Type 0 where
+record HighestFew (m k : ℕ) (h : NewCodes) : Type 0 where
   few : length (h .cells) ≤ m
   long : length (h .nets) ≡ k
 
@@ -94,8 +94,8 @@ highest-few : (cs : List (CellNo × CellNo)) (n : ℕ) (keep : ℕ → Bool) →
 unfolding highest
 highest-few [] n keep = record { few = omega arith; long = refl }
 highest-few (c ∷ cs) n keep =
-    let r : Highest = highest n (λ j. keep (suc j)) cs in
-    let v : Level = levelAt (n + length (r .cells)) (keep 0) (c .0) (c .1) (code (r .above) 0) in
+    let r : NewCodes = highest n (λ j. keep (suc j)) cs in
+    let v : NewCode = levelAt (n + length (r .cells)) (keep 0) (c .0) (c .1) (code (r .above) 0) in
     let rest = highest-few cs n (λ j. keep (suc j)) in
     record {
       few = omega (arith, length-append (r .cells) (v .cells), rest .few, level-few (n + length (r .cells)) (keep 0) (c .0) (c .1) (code (r .above) 0));
@@ -106,7 +106,7 @@ row-few : (cs : List (CellNo × CellNo)) (n : ℕ) (keep : ℕ → Bool) → Hig
 unfolding parallelRow
 row-few [] n keep = record { few = omega arith; long = refl }
 row-few (c ∷ cs) n keep =
-    let r : Highest = highest n (λ j. keep (suc j)) cs in
+    let r : NewCodes = highest n (λ j. keep (suc j)) cs in
     let v : New = lastAt (n + length (r .cells)) (keep 0) (c .0) (c .1) (code (r .above) 0) in
     let rest = highest-few cs n (λ j. keep (suc j)) in
     record {
@@ -188,7 +188,7 @@ sequence-sized k m n p q hp hq =
     let s : New = orAt n₂ (p .sel) (q .sel) in
     let ps : List CellNo = withCode0 low (p .codes) in
     let whole : length ps ≡ maxCodes = with-code0-long low (p .codes) (hp .long) in
-    let c : Row = orRow (past n₂ s) ps (q .codes) in
+    let c : NewRow = orRow (past n₂ s) ps (q .codes) in
     record {
       few = omega (
         arith,
@@ -209,7 +209,7 @@ unfolding buildPresent
 present-sized k m n x y p q hx hy hp hq =
     let n₂ : ℕ = n + length (p .cells) + length (q .cells) in
     let s : New = orAt n₂ (p .sel) (q .sel) in
-    let c : Row = orRow (past n₂ s) (p .codes) (q .codes) in
+    let c : NewRow = orRow (past n₂ s) (p .codes) (q .codes) in
     record {
       few = omega (
         arith,
@@ -235,7 +235,7 @@ parallel-sized k m n i keep p q hp hq =
     let s : New = orAt n₂ (p .sel) (q .sel) in
     let cs : List (CellNo × CellNo) = pairs (p .codes) (q .codes) in
     let whole : length cs ≡ maxCodes = pairs-length (p .codes) (q .codes) (hp .long ∙ sym (hq .long)) ∙ hp .long in
-    let c : Highest = parallelRow (past n₂ s) keep cs in
+    let c : NewCodes = parallelRow (past n₂ s) keep cs in
     let row = row-few cs (past n₂ s) keep in
     record {
       few = omega (

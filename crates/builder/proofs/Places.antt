@@ -60,20 +60,20 @@ rightTakes b p w =
     record { first = w .first + length (o .cells) + length (x .cells); go = goOf b (o .other) (x .codes); res = o .res; kill = o .kill; lists = x .lists }
 
 -- among the cells cs, which begin at n, the cells ps stand from m on, with k registers before them
-pub record Stands (cs : List Cell) (n : ℕ) (ps : List Cell) (m k : ℕ) : Type 0 where
+pub record StandsAmong (cs : List Cell) (n : ℕ) (ps : List Cell) (m k : ℕ) : Type 0 where
   pub earlier : List Cell
   pub later : List Cell
   pub is : cs ≡ earlier ++ (ps ++ later)
   pub place : m ≡ n + length earlier
   pub order : registers earlier ≡ k
 
-stands-as : {cs cs′ ps : List Cell} {n m k : ℕ} → cs ≡ cs′ → Stands cs′ n ps m k → Stands cs n ps m k
-stands-as {cs} {cs′} {ps} {n} {m} {k} e s = subst⁻¹ (λ (w : List Cell). Stands w n ps m k) e s
+stands-as : {cs cs′ ps : List Cell} {n m k : ℕ} → cs ≡ cs′ → StandsAmong cs′ n ps m k → StandsAmong cs n ps m k
+stands-as {cs} {cs′} {ps} {n} {m} {k} e s = subst⁻¹ (λ (w : List Cell). StandsAmong w n ps m k) e s
 
-stands-after : {cs ps : List Cell} {n m j k : ℕ} → j ≡ k → Stands cs n ps m j → Stands cs n ps m k
-stands-after {cs} {ps} {n} {m} e s = subst (λ (w : ℕ). Stands cs n ps m w) e s
+stands-after : {cs ps : List Cell} {n m j k : ℕ} → j ≡ k → StandsAmong cs n ps m j → StandsAmong cs n ps m k
+stands-after {cs} {ps} {n} {m} e s = subst (λ (w : ℕ). StandsAmong cs n ps m w) e s
 
-stands-in : {cs ps qs : List Cell} {n m m′ j k : ℕ} → Stands cs n ps m j → Stands ps m qs m′ k → Stands cs n qs m′ (j + k)
+stands-in : {cs ps qs : List Cell} {n m m′ j k : ℕ} → StandsAmong cs n ps m j → StandsAmong ps m qs m′ k → StandsAmong cs n qs m′ (j + k)
 stands-in {cs} {ps} {qs} {n} {m} {m′} {j} {k} a b =
     record {
       earlier = a .earlier ++ b .earlier;
@@ -88,7 +88,7 @@ one-cell x y = registers-gate Or x y [] ∙ registers-nil
 
 -- the part of a statement with one part
 closed-one : (u : Unary) (n : ℕ) (g r i : CellNo) (p : Built)
-    → Stands ((closeOne u n g r p) .cells) n (p .cells) (n + length ((openOne u n g r i) .cells)) 0
+    → StandsAmong ((closeOne u n g r p) .cells) n (p .cells) (n + length ((openOne u n g r i) .cells)) 0
 unfolding buildLoop buildWatching buildTrap
 closed-one Loop n g r i p =
     record { earlier = Gate Or g (code (p .codes) 0) ∷ []; later = []; is = rw (append-nil (p .cells)) refl; place = refl; order = one-cell g (code (p .codes) 0) }
@@ -133,13 +133,13 @@ two-cells (Present s) keep n g r i p q =
 two-cells Parallel keep n g r i p q = record { earlier = Gate Or i _ ∷ []; later = _; is = refl; long = refl; order = one-cell i _ }
 
 closed-left : (b : Binary) (keep : ℕ → Bool) (n : ℕ) (g r i : CellNo) (p q : Built)
-    → Stands ((closeTwo b keep n g i p q) .cells) n (p .cells) (n + length ((openTwo b n g r i) .cells)) 0
+    → StandsAmong ((closeTwo b keep n g i p q) .cells) n (p .cells) (n + length ((openTwo b n g r i) .cells)) 0
 closed-left b keep n g r i p q =
     let c = two-cells b keep n g r i p q in
     record { earlier = c .earlier; later = q .cells ++ c .later; is = c .is; place = ap (λ (k : ℕ). n + k) (sym (c .long)); order = c .order }
 
 closed-right : (b : Binary) (keep : ℕ → Bool) (n : ℕ) (g r i : CellNo) (p q : Built)
-    → Stands ((closeTwo b keep n g i p q) .cells) n (q .cells) (n + length ((openTwo b n g r i) .cells) + length (p .cells)) (registers (p .cells))
+    → StandsAmong ((closeTwo b keep n g i p q) .cells) n (q .cells) (n + length ((openTwo b n g r i) .cells) + length (p .cells)) (registers (p .cells))
 closed-right b keep n g r i p q =
     let c = two-cells b keep n g r i p q in
     record {
@@ -158,7 +158,7 @@ pub data Part : Stmt → Takes → Stmt → Takes → ℕ → Type 0 where
   in-right : {b : Binary} {p q t : Stmt} {w w′ : Takes} {k : ℕ} → Part q (rightTakes b p w) t w′ k → Part (two b p q) w t w′ (haltCount p + k)
 
 -- its cells stand from its first number on
-pub part-stands : {t p : Stmt} {w w′ : Takes} {k : ℕ} → Part t w p w′ k → Stands ((built t w) .cells) (w .first) ((built p w′) .cells) (w′ .first) k
+pub part-stands : {t p : Stmt} {w w′ : Takes} {k : ℕ} → Part t w p w′ k → StandsAmong ((built t w) .cells) (w .first) ((built p w′) .cells) (w′ .first) k
 part-stands (itself t w) =
     record { earlier = []; later = []; is = rw (append-nil ((built t w) .cells)) refl; place = omega arith; order = registers-nil }
 part-stands (in-one {u} {p} {t} {w} {w′} {k} s) =

@@ -32,25 +32,25 @@ use Rattle.parts.specs.declared.Opened.{Opened}
 use Rattle.parts.specs.Equations.{Built, past, given, build}
 use Rattle.parts.specs.Contract.{nets, ownCells, Begun, Builds, openOne, openTwo, goOf, Opens, ClosesOne, ClosesTwo, LeafNamed, UnaryNamed, BinaryNamed}
 use Rattle.parts.proofs.Parts.{builds-as, one-builds, two-builds}
-use Rattle.builder.specs.Walking.{Named, Fit, Buildable, Task, Does}
+use Rattle.builder.specs.Walking.{Named, InShape, Buildable, Task, Does}
 use Rattle.builder.proofs.Few.{gate-few, sized}
 
 -- what the code asks of a statement it may ask of the parts
 module _ {ms : List ℕ} {n : StmtNo} where
-  fit-part : (u : Unary) (p : Stmt) → Fit ms n (one u p) → Fit ms (further n 1) p
+  fit-part : (u : Unary) (p : Stmt) → InShape ms n (one u p) → InShape ms (further n 1) p
   unfolding Low Named Kept
   fit-part u p f = record { low = f .low; named = f .named .1; kept = f .kept .1 }
 
-  fit-left : (b : Binary) (p q : Stmt) → Fit ms n (two b p q) → Fit ms (further n 1) p
+  fit-left : (b : Binary) (p q : Stmt) → InShape ms n (two b p q) → InShape ms (further n 1) p
   unfolding Low Named Kept
   fit-left b p q f = record { low = f .low .0; named = f .named .1; kept = f .kept .1 }
 
-  fit-right : (b : Binary) (p q : Stmt) → Fit ms n (two b p q) → Fit ms (further n (1 + size p)) q
+  fit-right : (b : Binary) (p q : Stmt) → InShape ms n (two b p q) → InShape ms (further n (1 + size p)) q
   unfolding Low Named Kept
   fit-right b p q f = record { low = f .low .1; named = f .named .2; kept = f .kept .2 }
 
   -- its own entry
-  entry : (b : Binary) (p q : Stmt) → Fit ms n (two b p q) → Entered ms n (two b p q)
+  entry : (b : Binary) (p q : Stmt) → InShape ms n (two b p q) → Entered ms n (two b p q)
   unfolding Kept
   entry b p q f = f .kept .0
 
@@ -76,7 +76,7 @@ module _ {w : Task} where
     does = λ a t h f.
         let k = is-one (w .rows) (w .stmt) a t h e in
         let p : Stmt = k .part in
-        let fit : Fit (w .statics) (w .stmt) (one u p) = subst (λ (v : Stmt). Fit (w .statics) (w .stmt) v) (k .is) f in
+        let fit : InShape (w .statics) (w .stmt) (one u p) = subst (λ (v : Stmt). InShape (w .statics) (w .stmt) v) (k .is) f in
         builds-as (ap (built w) (k .is)) (one-builds (nets (w .lists)) u p (w .go) (w .res) (w .kill) o (d .does a p (k .holds) (fit-part u p fit)) c);
   }
 
@@ -94,10 +94,10 @@ module _ {w : Task} where
             let k = is-two rows (w .stmt) a t h e in
             let x : Stmt = k .left in
             let y : Stmt = k .right in
-            let fit : Fit (w .statics) (w .stmt) (two b x y) = subst (λ (v : Stmt). Fit (w .statics) (w .stmt) v) (k .is) f in
+            let fit : InShape (w .statics) (w .stmt) (two b x y) = subst (λ (v : Stmt). InShape (w .statics) (w .stmt) v) (k .is) f in
             let place : j ≡ further (w .stmt) (1 + size x) = ej ∙ k .second in
             let holds : Holds rows j (haltsOn a (haltCount x)) y = subst⁻¹ (λ (v : StmtNo). Holds rows v (haltsOn a (haltCount x)) y) place (k .holds-right) in
-            let right : Fit (w .statics) j y = subst⁻¹ (λ (v : StmtNo). Fit (w .statics) v y) place (fit-right b x y fit) in
+            let right : InShape (w .statics) j y = subst⁻¹ (λ (v : StmtNo). InShape (w .statics) v y) place (fit-right b x y fit) in
             let around : Begun = record { start = w .next; go = w .go; kill = w .kill } in
             let closed : ClosesTwo b (given (two b x y)) around l₃ l₄ p q s =
             subst (λ (v : ℕ → Bool). ClosesTwo b v around l₃ l₄ p q s) (kept (two b x y) (fit .low) (entry b x y fit)) c in
@@ -123,7 +123,7 @@ open-two-few Parallel n g r i = omega arith
 
 -- what a walk builds has few cells
 does-few : {w : Task} {l′ ls′ : List ℕ} {b : Returned} (a : HaltNo) (p : Stmt) → Holds (w .rows) (w .stmt) a p
-    → Fit (w .statics) (w .stmt) p → Does w l′ ls′ b
+    → InShape (w .statics) (w .stmt) p → Does w l′ ls′ b
     → b .count ≤ w .next + ownCells * size p
 does-few {w} a p h f d =
     omega (arith, d .does a p h f .wrote .counted, sized p (w .next) (w .go) (w .res) (w .kill) (nets (w .lists)) (f .low) .few)
@@ -141,21 +141,21 @@ module _ {rows ms ls : List ℕ} {n : StmtNo} {count : ℕ} (ready : Buildable r
   pub ready-leaf : {x : Leaf} → rowAt rows n .head ≡ Zero x → LowLeaf x × LeafNamed x
   unfolding Low Named
   ready-leaf {x} e =
-      let fit : Fit ms n (leaf x) = subst (λ (w : Stmt). Fit ms n w) (is-leaf rows n (ready .first) (ready .stmt) (ready .holds) e) (ready .fit) in
+      let fit : InShape ms n (leaf x) = subst (λ (w : Stmt). InShape ms n w) (is-leaf rows n (ready .first) (ready .stmt) (ready .holds) e) (ready .fit) in
       (fit .low, fit .named)
 
   module _ {u : Unary} (e : rowAt rows n .head ≡ One u) where
     the-one : IsOne rows n (ready .first) (ready .stmt) u
     the-one = is-one rows n (ready .first) (ready .stmt) (ready .holds) e
 
-    fit-one : Fit ms n (one u (the-one .part))
-    fit-one = subst (λ (w : Stmt). Fit ms n w) (the-one .is) (ready .fit)
+    fit-one : InShape ms n (one u (the-one .part))
+    fit-one = subst (λ (w : Stmt). InShape ms n w) (the-one .is) (ready .fit)
 
     size-one : size (ready .stmt) ≡ 1 + size (the-one .part)
     unfolding size
     size-one = ap size (the-one .is)
 
-    there-one : Fit ms (further n 1) (the-one .part)
+    there-one : InShape ms (further n 1) (the-one .part)
     there-one = fit-part u (the-one .part) fit-one
 
     pub ready-unary : UnaryNamed u
@@ -190,14 +190,14 @@ module _ {rows ms ls : List ℕ} {n : StmtNo} {count : ℕ} (ready : Buildable r
     the-two : IsTwo rows n (ready .first) (ready .stmt) b
     the-two = is-two rows n (ready .first) (ready .stmt) (ready .holds) e
 
-    fit-two : Fit ms n (two b (the-two .left) (the-two .right))
-    fit-two = subst (λ (w : Stmt). Fit ms n w) (the-two .is) (ready .fit)
+    fit-two : InShape ms n (two b (the-two .left) (the-two .right))
+    fit-two = subst (λ (w : Stmt). InShape ms n w) (the-two .is) (ready .fit)
 
     size-two : size (ready .stmt) ≡ 1 + size (the-two .left) + size (the-two .right)
     unfolding size
     size-two = ap size (the-two .is)
 
-    there-left : Fit ms (further n 1) (the-two .left)
+    there-left : InShape ms (further n 1) (the-two .left)
     there-left = fit-left b (the-two .left) (the-two .right) fit-two
 
     pub ready-binary : BinaryNamed b
@@ -234,8 +234,8 @@ module _ {rows ms ls : List ℕ} {n : StmtNo} {count : ℕ} (ready : Buildable r
         holds-there =
             subst⁻¹ (λ (w : StmtNo). Holds rows w (haltsOn (ready .first) (haltCount (the-two .left))) (the-two .right)) place (the-two .holds-right)
 
-        fit-there : Fit ms j (the-two .right)
-        fit-there = subst⁻¹ (λ (w : StmtNo). Fit ms w (the-two .right)) place (fit-right b (the-two .left) (the-two .right) fit-two)
+        fit-there : InShape ms j (the-two .right)
+        fit-there = subst⁻¹ (λ (w : StmtNo). InShape ms w (the-two .right)) place (fit-right b (the-two .left) (the-two .right) fit-two)
 
         pub ready-right : length ls₁ ≡ maxSignals → Buildable rows ms ls₁ j (p .count)
         ready-right long =

@@ -22,7 +22,7 @@ Named (one u p) = UnaryNamed u × Named p
 Named (two b p q) = BinaryNamed b × Named p × Named q
 
 -- what the code asks of a statement with the number n: its exits' levels are codes, its signals are named so, and K and R stand in their column
-pub record Fit (ms : List ℕ) (n : StmtNo) (t : Stmt) : Type 0 where
+pub record InShape (ms : List ℕ) (n : StmtNo) (t : Stmt) : Type 0 where
   pub low : Low t
   pub named : Named t
   pub kept : Kept ms n t
@@ -32,7 +32,7 @@ pub record Buildable (rows ms ls : List ℕ) (n : StmtNo) (count : ℕ) : Type 0
   pub first : HaltNo
   pub stmt : Stmt
   pub holds : Holds rows n first stmt
-  pub fit : Fit ms n stmt
+  pub fit : InShape ms n stmt
   pub lists : length ls ≡ maxSignals
   pub room : count + ownCells * size stmt < 65536
 
@@ -50,5 +50,5 @@ pub record Task : Type 0 where
 
 -- what the builder ensures of whichever statement stands there
 pub record Does (w : Task) (cells′ lists′ : List ℕ) (b : Returned) : Type 0 where
-  pub does : (a : HaltNo) (t : Stmt) → Holds (w .rows) (w .stmt) a t → Fit (w .statics) (w .stmt) t
+  pub does : (a : HaltNo) (t : Stmt) → Holds (w .rows) (w .stmt) a t → InShape (w .statics) (w .stmt) t
       → Builds (build t (w .next) (w .go) (w .res) (w .kill) (nets (w .lists))) (w .cells) cells′ lists′ (w .next) b

@@ -18,9 +18,9 @@ use Rattle.cells.specs.declared.Cell.the-variants.{Gate}
 use Rattle.cells.specs.Cells.{low, isLow}
 use Rattle.cells.specs.Words.{word}
 use Rattle.gates.specs.Folding.{New, old, new, firstLow, secondLow, gateAt}
-use Rattle.gates.specs.Store.{Wrote, Makes}
+use Rattle.gates.specs.Store.{WroteCells, Makes}
 
-pub wrote-none : (l : List ℕ) (n : ℕ) → Wrote l l n n []
+pub wrote-none : (l : List ℕ) (n : ℕ) → WroteCells l l n n []
 wrote-none l n = record { stored = refl; counted = sym (add-zero n) }
 
 map-append : (u v : List Cell) → map word (u ++ v) ≡ map word u ++ map word v
@@ -28,7 +28,7 @@ map-append [] v = refl
 map-append (c ∷ u) v = ap (λ (l : List ℕ). word c ∷ l) (map-append u v)
 
 -- more cells after some
-pub wrote-more : {l l₁ l₂ : List ℕ} {n n₁ n₂ : ℕ} {u v : List Cell} → Wrote l l₁ n n₁ u → Wrote l₁ l₂ n₁ n₂ v → Wrote l l₂ n n₂ (u ++ v)
+pub wrote-more : {l l₁ l₂ : List ℕ} {n n₁ n₂ : ℕ} {u v : List Cell} → WroteCells l l₁ n n₁ u → WroteCells l₁ l₂ n₁ n₂ v → WroteCells l l₂ n n₂ (u ++ v)
 wrote-more {l} {l₁} {l₂} {n} {n₁} {n₂} {u} {v} p q =
     let place : n₁ ≡ n + length (map word u) = p .counted ∙ ap (λ (k : ℕ). n + k) (sym (length-map u word)) in
     record {
@@ -44,7 +44,7 @@ set-below l n m v (x ∷ u) h =
 
 -- "Cells marked * are reserved at once, unfolded, their last operand filled later.": the cell v is filled in for w once the cells u after it are made
 pub wrote-fill : {l l₁ l₂ : List ℕ} {n n₁ n₂ : ℕ} {u : List Cell} {w v : Cell}
-    → Wrote l l₁ n n₁ (w ∷ []) → Wrote l₁ l₂ n₁ n₂ u → Wrote l (set l₂ n (word v)) n n₂ (v ∷ u)
+    → WroteCells l l₁ n n₁ (w ∷ []) → WroteCells l₁ l₂ n₁ n₂ u → WroteCells l (set l₂ n (word v)) n n₂ (v ∷ u)
 wrote-fill {l} {l₁} {l₂} {n} {n₁} {n₂} {u} {w} {v} p q =
     let next : n₁ ≡ suc n = omega (arith, p .counted) in
     let past : set (sets (set l n (word w)) (suc n) (map word u)) n (word v) ≡ sets (set l n (word v)) (suc n) (map word u) =
@@ -56,7 +56,7 @@ wrote-fill {l} {l₁} {l₂} {n} {n₁} {n₂} {u} {w} {v} p q =
     }
 
 -- the column keeps its length
-pub wrote-length : {l l′ : List ℕ} {n n′ : ℕ} {u : List Cell} → Wrote l l′ n n′ u → length l′ ≡ length l
+pub wrote-length : {l l′ : List ℕ} {n n′ : ℕ} {u : List Cell} → WroteCells l l′ n n′ u → length l′ ≡ length l
 wrote-length {l} {l′} {n} {n′} {u} w = ap length (w .stored) ∙ length-sets l n (map word u)
 
 -- a net that was there

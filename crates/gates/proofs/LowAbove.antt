@@ -14,7 +14,7 @@ use Rattle.limits.specs.Limits.{maxCodes}
 use Rattle.cells.specs.declared.Cell.{Cell}
 use Rattle.cells.specs.Cells.{low, isLow}
 use Rattle.gates.specs.Folding.{old, gateAt, orAt, butnotAt}
-use Rattle.gates.specs.Rows.{code, only, withCode0, trapRow, orRow, pairs, Level, levelAt, Highest, highest, parallelRow, killOf}
+use Rattle.gates.specs.Rows.{code, only, withCode0, trapRow, orRow, pairs, NewCode, levelAt, NewCodes, highest, parallelRow, killOf}
 use Rattle.gates.proofs.OrRow.{with-code0-at, trap-at}
 use Rattle.gates.proofs.ParallelRow.{pairs-at}
 
@@ -78,7 +78,7 @@ level-low n true x = simp (or-low-left, butnot-low, or-low-right)
 level-low n false x = simp (or-low-left, or-low-right)
 
 -- the same cells, nets and x
-pub record Same (a b : Highest) : Type 0 where
+pub record Same (a b : NewCodes) : Type 0 where
   pub cells : a .cells ≡ b .cells
   pub nets : (j : ℕ) → code (a .nets) j ≡ code (b .nets) j
   pub above : (j : ℕ) → code (a .above) j ≡ code (b .above) j
@@ -92,15 +92,15 @@ unfolding highest
 cut zero [] n keep h = record { cells = refl; nets = λ j. refl; above = λ j. refl }
 cut (suc k) [] n keep h = record { cells = refl; nets = λ j. refl; above = λ j. refl }
 cut zero (c ∷ cs) n keep h =
-    let r : Highest = highest n (λ j. keep (suc j)) cs in
-    let v : Level = levelAt (n + length (r .cells)) (keep 0) (c .0) (c .1) (code (r .above) 0) in
+    let r : NewCodes = highest n (λ j. keep (suc j)) cs in
+    let v : NewCode = levelAt (n + length (r .cells)) (keep 0) (c .0) (c .1) (code (r .above) 0) in
     let rest = cut zero cs n (λ j. keep (suc j)) (λ j l. h (suc j) (omega arith)) in
     let here : c ≡ (low, low) = h 0 (omega arith) in
     let e : v ≡ record { cells = []; net = low; above = low } = rw (here, rest .above 0) (level-low (n + length (r .cells)) (keep 0) low) in
     record {
-      cells = ap (λ (u : List Cell). u ++ v .cells) (rest .cells) ∙ ap (λ (w : Level). w .cells) e;
-      nets = λ j. elim j [ zero ↦ ap (λ (w : Level). w .net) e | suc i ↦ rest .nets i ];
-      above = λ j. elim j [ zero ↦ ap (λ (w : Level). w .above) e | suc i ↦ rest .above i ];
+      cells = ap (λ (u : List Cell). u ++ v .cells) (rest .cells) ∙ ap (λ (w : NewCode). w .cells) e;
+      nets = λ j. elim j [ zero ↦ ap (λ (w : NewCode). w .net) e | suc i ↦ rest .nets i ];
+      above = λ j. elim j [ zero ↦ ap (λ (w : NewCode). w .above) e | suc i ↦ rest .above i ];
     }
 cut (suc k) (c ∷ cs) n keep h =
     let rest = cut k cs n (λ j. keep (suc j)) (λ j l. h (suc j) (omega arith)) in

@@ -16,7 +16,7 @@ use Rattle.cells.specs.declared.Gate.the-variants.{Or, Butnot}
 use Rattle.cells.specs.Cells.{low}
 use Rattle.cells.proofs.Within.{AllWithin, none-within, append-within}
 use Rattle.gates.specs.Folding.{New, gateAt, orAt, butnotAt}
-use Rattle.gates.specs.Rows.{code, only, withCode0, trapRow, Row, orRow, pairs, onlyIf, Level, levelAt, lastAt, Highest, highest, parallelRow}
+use Rattle.gates.specs.Rows.{code, only, withCode0, trapRow, NewRow, orRow, pairs, onlyIf, NewCode, levelAt, lastAt, NewCodes, highest, parallelRow}
 use Rattle.gates.proofs.Laws.{by-folding, first-low-is, second-low-is}
 use Rattle.gates.proofs.ParallelRow.{pairs-at}
 use Rattle.gates.proofs.OrRow.{trap-at, with-code0-at}
@@ -29,16 +29,16 @@ pub record NewWithin (s m : ℕ) (w : New) : Type 0 where
   pub operands : AllWithin s m (w .cells)
   pub net : ofCell (w .net) < m
 
-pub record RowWithin (s m : ℕ) (w : Row) : Type 0 where
+pub record RowWithin (s m : ℕ) (w : NewRow) : Type 0 where
   pub operands : AllWithin s m (w .cells)
   pub nets : NetsBelow m (w .nets)
 
-record LevelWithin (s m : ℕ) (w : Level) : Type 0 where
+record LevelWithin (s m : ℕ) (w : NewCode) : Type 0 where
   operands : AllWithin s m (w .cells)
   net : ofCell (w .net) < m
   above : ofCell (w .above) < m
 
-pub record HighestWithin (s m : ℕ) (w : Highest) : Type 0 where
+pub record HighestWithin (s m : ℕ) (w : NewCodes) : Type 0 where
   pub operands : AllWithin s m (w .cells)
   pub nets : NetsBelow m (w .nets)
   pub above : NetsBelow m (w .above)
@@ -84,7 +84,7 @@ module _ (s m : ℕ) where
   or-row-within (p ∷ ps) [] n hp hq h = record { operands = none-within s m; nets = hp }
   or-row-within (p ∷ ps) (q ∷ qs) n hp hq h =
       let o : New = orAt n p q in
-      let r : Row = orRow (n + length (o .cells)) ps qs in
+      let r : NewRow = orRow (n + length (o .cells)) ps qs in
       let long : length (o .cells ++ r .cells) ≡ length (o .cells) + length (r .cells) = length-append (o .cells) (r .cells) in
       let this : NewWithin s m o = gate-within Or n p q (hp 0) (hq 0) (omega arith) in
       let rest : RowWithin s m r = or-row-within ps qs (n + length (o .cells)) (λ j. hp (suc j)) (λ j. hq (suc j)) (omega arith) in
@@ -140,9 +140,9 @@ module _ (s m : ℕ) where
   unfolding highest
   highest-within [] n keep hc some h = record { operands = none-within s m; nets = λ j. some; above = λ j. some }
   highest-within (c ∷ cs) n keep hc some h =
-      let r : Highest = highest n (λ j. keep (suc j)) cs in
+      let r : NewCodes = highest n (λ j. keep (suc j)) cs in
       let n₁ : ℕ = n + length (r .cells) in
-      let v : Level = levelAt n₁ (keep 0) (c .0) (c .1) (code (r .above) 0) in
+      let v : NewCode = levelAt n₁ (keep 0) (c .0) (c .1) (code (r .above) 0) in
       let long : length (r .cells ++ v .cells) ≡ length (r .cells) + length (v .cells) = length-append (r .cells) (v .cells) in
       let rest : HighestWithin s m r = highest-within cs n (λ j. keep (suc j)) (λ j. hc (suc j)) some (omega arith) in
       let this : LevelWithin s m v = level-within n₁ (keep 0) (c .0) (c .1) (code (r .above) 0) (hc 0 .0) (hc 0 .1) (rest .above 0) (omega arith) in
@@ -157,7 +157,7 @@ module _ (s m : ℕ) where
   unfolding parallelRow
   row-of-pairs [] n keep hc some h = record { operands = none-within s m; nets = λ j. some; above = λ j. some }
   row-of-pairs (c ∷ cs) n keep hc some h =
-      let r : Highest = highest n (λ j. keep (suc j)) cs in
+      let r : NewCodes = highest n (λ j. keep (suc j)) cs in
       let n₁ : ℕ = n + length (r .cells) in
       let x : CellNo = code (r .above) 0 in
       let o : New = orAt n₁ (c .0) (c .1) in

@@ -13,14 +13,14 @@ use Rattle.limits.specs.Limits.{maxCodes}
 use Rattle.cells.specs.declared.Cell.{Cell}
 use Rattle.cells.specs.Cells.{low}
 use Rattle.gates.specs.Folding.{New, orAt}
-use Rattle.gates.specs.Rows.{code, only, withCode0, trapRow, Row, orRow}
-use Rattle.gates.specs.Store.{Wrote, Makes, MakesRow}
+use Rattle.gates.specs.Rows.{code, only, withCode0, trapRow, NewRow, orRow}
+use Rattle.gates.specs.Store.{WroteCells, Makes, MakesRow}
 use Rattle.gates.proofs.Laws.{wrote-none, wrote-more}
 
 -- The loop's invariant: with the nets before j made, what is made and what is left to make are the whole.
 pub record Rowing (l₀ : List ℕ) (n₀ : ℕ) (a b : List CellNo) (l : List ℕ) (nets : List CellNo) (n j : ℕ) : Type 0 where
   pub made : List Cell
-  pub wrote : Wrote l₀ l n₀ n made
+  pub wrote : WroteCells l₀ l n₀ n made
   pub cells : made ++ (orRow n (drop j a) (drop j b)) .cells ≡ (orRow n₀ a b) .cells
   pub out : take j nets ++ (orRow n (drop j a) (drop j b)) .nets ≡ (orRow n₀ a b) .nets
   pub la : length a ≡ maxCodes
@@ -34,7 +34,7 @@ rowing-start l n a b ha hb =
     record { made = []; wrote = wrote-none l n; cells = refl; out = refl; la = ha; lb = hb; ln = hb; upto = omega arith; few = omega arith }
 
 -- what or'ing the codes of p and q gives, before the rest
-abbrev after : New → Row → Row
+abbrev after : New → NewRow → NewRow
 after o r = record { cells = o .cells ++ r .cells; nets = o .net ∷ r .nets }
 
 row-cons : (n : ℕ) (p q : CellNo) (ps qs : List CellNo)

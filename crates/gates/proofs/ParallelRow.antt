@@ -11,8 +11,8 @@ use Rattle.number.specs.declared.CellNo.{CellNo}
 use Rattle.limits.specs.Limits.{maxCodes}
 use Rattle.cells.specs.Cells.{low}
 use Rattle.gates.specs.Folding.{New, orAt, butnotAt}
-use Rattle.gates.specs.Rows.{code, onlyIf, pairs, Level, levelAt, lastAt, Highest, highest, parallelRow}
-use Rattle.gates.specs.Store.{parallelCells, Wrote, Makes, MakesLevel, MakesHighest}
+use Rattle.gates.specs.Rows.{code, onlyIf, pairs, NewCode, levelAt, lastAt, NewCodes, highest, parallelRow}
+use Rattle.gates.specs.Store.{parallelCells, WroteCells, Makes, MakesLevel, MakesHighest}
 use Rattle.gates.proofs.Laws.{wrote-none, wrote-more}
 use Rattle.gates.proofs.OrRow.{any}
 
@@ -68,12 +68,12 @@ pairs-length (p ∷ ps) [] e = absurd (omega arith)
 pairs-length (p ∷ ps) (q ∷ qs) e = ap suc (pairs-length ps qs (omega arith))
 
 -- the codes from j on
-abbrev pub upper : ℕ → (ℕ → Bool) → List CellNo → List CellNo → ℕ → Highest
+abbrev pub upper : ℕ → (ℕ → Bool) → List CellNo → List CellNo → ℕ → NewCodes
 upper n keep a b j = highest n (fromOn keep j) (drop j (pairs a b))
 
 -- the codes from j on are made
 pub record Falling (l₀ : List ℕ) (n₀ : ℕ) (keep : ℕ → Bool) (a b : List CellNo) (l : List ℕ) (nets : List CellNo) (n : ℕ) (x : CellNo) (j : ℕ) : Type 0 where
-  pub wrote : Wrote l₀ l n₀ n ((upper n₀ keep a b j) .cells)
+  pub wrote : WroteCells l₀ l n₀ n ((upper n₀ keep a b j) .cells)
   pub out : drop j nets ≡ (upper n₀ keep a b j) .nets
   pub above : x ≡ code ((upper n₀ keep a b j) .above) 0
   pub la : length a ≡ maxCodes
@@ -87,7 +87,7 @@ pub record Looping (l₀ : List ℕ) (n₀ : ℕ) (keep : ℕ → Bool) (a b : L
   pub falling : Falling l₀ n₀ keep a b l nets n x j
   pub least : 2 ≤ j
 
-none : Highest
+none : NewCodes
 none = record { cells = []; nets = []; above = [] }
 
 highest-nil : (n : ℕ) (keep : ℕ → Bool) → highest n keep [] ≡ none
@@ -117,19 +117,19 @@ looping-start l n keep a b nets ha hb hn =
     }
 
 -- a code below those of r
-abbrev onLevel : Highest → Level → Highest
+abbrev onLevel : NewCodes → NewCode → NewCodes
 onLevel r v = record { cells = r .cells ++ v .cells; nets = v .net ∷ r .nets; above = v .above ∷ r .above }
 
 -- code 0 below those of r
-abbrev onLast : Highest → New → Highest
+abbrev onLast : NewCodes → New → NewCodes
 onLast r w = record { cells = r .cells ++ w .cells; nets = w .net ∷ r .nets; above = r .above }
 
-highest-cons : (n : ℕ) (keep : ℕ → Bool) (c : CellNo × CellNo) (cs : List (CellNo × CellNo)) → let r : Highest = highest n (λ j. keep (suc j)) cs in
+highest-cons : (n : ℕ) (keep : ℕ → Bool) (c : CellNo × CellNo) (cs : List (CellNo × CellNo)) → let r : NewCodes = highest n (λ j. keep (suc j)) cs in
     highest n keep (c ∷ cs) ≡ onLevel r (levelAt (n + length (r .cells)) (keep 0) (c .0) (c .1) (code (r .above) 0))
 unfolding highest
 highest-cons n keep c cs = refl
 
-parallel-cons : (n : ℕ) (keep : ℕ → Bool) (c : CellNo × CellNo) (cs : List (CellNo × CellNo)) → let r : Highest = highest n (fromOn keep 1) cs in
+parallel-cons : (n : ℕ) (keep : ℕ → Bool) (c : CellNo × CellNo) (cs : List (CellNo × CellNo)) → let r : NewCodes = highest n (fromOn keep 1) cs in
     parallelRow n keep (c ∷ cs) ≡ onLast r (lastAt (n + length (r .cells)) (keep 0) (c .0) (c .1) (code (r .above) 0))
 unfolding parallelRow fromOn
 parallel-cons n keep c cs = refl
@@ -143,7 +143,7 @@ next-pair a b j la lb lt =
 
 -- one code more
 module _ (n₀ : ℕ) (keep : ℕ → Bool) (a b : List CellNo) (j : ℕ) (la : length a ≡ maxCodes) (lb : length b ≡ maxCodes) (lt : j < maxCodes) where
-  upper-step : let r : Highest = upper n₀ keep a b (suc j) in
+  upper-step : let r : NewCodes = upper n₀ keep a b (suc j) in
       upper n₀ keep a b j ≡ onLevel r (levelAt (n₀ + length (r .cells)) (keep j) (code a j) (code b j) (code (r .above) 0))
   unfolding fromOn
   upper-step =
@@ -160,7 +160,7 @@ module _ {l₀ : List ℕ} {n₀ : ℕ} {keep : ℕ → Bool} {a b : List CellNo
       → MakesLevel 3 (levelAt n (keep j) (getD a j d) (getD b j d) x) l l′ n n′ c y → Falling l₀ n₀ keep a b l′ (set nets j c) n′ y j
   falling-down {l′} {n′} {c} {y} j d f m₀ =
       let lt : j < maxCodes = f .most in
-      let r : Highest = upper n₀ keep a b (suc j) in
+      let r : NewCodes = upper n₀ keep a b (suc j) in
       let m : MakesLevel 3 (levelAt (n₀ + length (r .cells)) (keep j) (code a j) (code b j) (code (r .above) 0)) l l′ n n′ c y =
       rw (← (f .wrote .counted), ← (f .above), ← (any a j d (omega (arith, f .la))), ← (any b j d (omega (arith, f .lb)))) m₀ in
       let e = upper-step n₀ keep a b j (f .la) (f .lb) lt in
@@ -192,7 +192,7 @@ module _ {l₀ : List ℕ} {n₀ : ℕ} {keep : ℕ → Bool} {a b : List CellNo
       let ej : j ≡ 2 = omega (arith, g .least) in
       let f₂ : Falling l₀ n₀ keep a b l nets n x 2 = rw ej at (g .falling) in
       let f : Falling l₀ n₀ keep a b l₁ (set nets 1 c₁) n₁ y 1 = falling-down 1 d f₂ m₁ in
-      let r : Highest = upper n₀ keep a b 1 in
+      let r : NewCodes = upper n₀ keep a b 1 in
       let w : New = lastAt (n₀ + length (r .cells)) (keep 0) (code a 0) (code b 0) (code (r .above) 0) in
       let e : parallelRow n₀ keep (pairs a b) ≡ onLast r w =
       ap (parallelRow n₀ keep) (next-pair a b 0 (f .la) (f .lb) (omega arith)) ∙ parallel-cons n₀ keep (code a 0, code b 0) (drop 1 (pairs a b)) in
@@ -202,6 +202,6 @@ module _ {l₀ : List ℕ} {n₀ : ℕ} {keep : ℕ → Bool} {a b : List CellNo
       record {
         wrote = rw e (wrote-more (f .wrote) (m .wrote));
         is = rw e (drop-set (set nets 1 c₁) 0 c₀ (omega (arith, f .ln)) ∙ rw (f .out, m .is));
-        kill = rw e (f₂ .above ∙ sym (ap (λ (h : Highest). code (h .above) 1) one));
+        kill = rw e (f₂ .above ∙ sym (ap (λ (h : NewCodes). code (h .above) 1) one));
         few = omega (arith, f .few, m₀ .few);
       }

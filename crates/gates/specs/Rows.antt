@@ -23,17 +23,17 @@ abbrev pub withCode0 : CellNo → List CellNo → List CellNo
 withCode0 y ks = y ∷ drop 1 ks
 
 -- some new cells, and the row of nets that they give
-pub record Row : Type 0 where
+pub record NewRow : Type 0 where
   pub cells : List Cell
   pub nets : List CellNo
 
 -- "codes or'ed upward from 0": the rows of p and of q
-unfoldable pub orRow : ℕ → List CellNo → List CellNo → Row
+unfoldable pub orRow : ℕ → List CellNo → List CellNo → NewRow
 orRow n [] qs = record { cells = []; nets = qs }
 orRow n (p ∷ ps) [] = record { cells = []; nets = p ∷ ps }
 orRow n (p ∷ ps) (q ∷ qs) =
     let o : New = orAt n p q in
-    let r : Row = orRow (n + length (o .cells)) ps qs in
+    let r : NewRow = orRow (n + length (o .cells)) ps qs in
     record { cells = o .cells ++ r .cells; nets = o .net ∷ r .nets }
 
 -- "trap: code 0 = or(p's 0, p's 2); 1 stays; j is p's j+1": o is that or
@@ -52,13 +52,13 @@ onlyIf true w = w
 onlyIf false w = old low
 
 -- one code of a parallel: its new cells, its net, and x after it
-pub record Level : Type 0 where
+pub record NewCode : Type 0 where
   pub cells : List Cell
   pub net : CellNo
   pub above : CellNo
 
 -- "m = or(p's j, q's j); code j = butnot(m,x) if j is in K or R of the parallel, else 0; if j > 0, x = or(x,m)": `keep` says whether j is in K or R
-abbrev pub levelAt : ℕ → Bool → CellNo → CellNo → CellNo → Level
+abbrev pub levelAt : ℕ → Bool → CellNo → CellNo → CellNo → NewCode
 levelAt n keep p q x =
     let m : New = orAt n p q in
     let n₂ : ℕ = n + length (m .cells) in
@@ -75,27 +75,27 @@ lastAt n keep p q x =
     record { cells = m .cells ++ b .cells; net = b .net }
 
 -- codes of a parallel: their new cells, their nets, and x as it stands after each
-pub record Highest : Type 0 where
+pub record NewCodes : Type 0 where
   pub cells : List Cell
   pub nets : List CellNo
   pub above : List CellNo
 
 -- "x = 0; for j from 1+d down to 0": the codes from some code above 0 on, whose cells come before those of the codes below it
-unfoldable pub highest : ℕ → (ℕ → Bool) → List (CellNo × CellNo) → Highest
+unfoldable pub highest : ℕ → (ℕ → Bool) → List (CellNo × CellNo) → NewCodes
 highest n keep [] = record { cells = []; nets = []; above = [] }
 highest n keep (c ∷ cs) =
-    let r : Highest = highest n (λ j. keep (suc j)) cs in
-    let v : Level = levelAt (n + length (r .cells)) (keep 0) (c .0) (c .1) (code (r .above) 0) in
+    let r : NewCodes = highest n (λ j. keep (suc j)) cs in
+    let v : NewCode = levelAt (n + length (r .cells)) (keep 0) (c .0) (c .1) (code (r .above) 0) in
     record { cells = r .cells ++ v .cells; nets = v .net ∷ r .nets; above = v .above ∷ r .above }
 
 -- all codes of a parallel; `above` begins at code 1
-unfoldable pub parallelRow : ℕ → (ℕ → Bool) → List (CellNo × CellNo) → Highest
+unfoldable pub parallelRow : ℕ → (ℕ → Bool) → List (CellNo × CellNo) → NewCodes
 parallelRow n keep [] = record { cells = []; nets = []; above = [] }
 parallelRow n keep (c ∷ cs) =
-    let r : Highest = highest n (λ j. keep (suc j)) cs in
+    let r : NewCodes = highest n (λ j. keep (suc j)) cs in
     let v : New = lastAt (n + length (r .cells)) (keep 0) (c .0) (c .1) (code (r .above) 0) in
     record { cells = r .cells ++ v .cells; nets = v .net ∷ r .nets; above = r .above }
 
 -- "Q's last operand is x as it stands after j = 2"
-abbrev pub killOf : Highest → CellNo
+abbrev pub killOf : NewCodes → CellNo
 killOf h = code (h .above) 1

@@ -11,7 +11,7 @@ use Rattle.number.specs.declared.CellNo.{CellNo}
 use Rattle.limits.specs.Limits.{maxCells}
 use Rattle.cells.specs.declared.Cell.{Cell}
 use Rattle.order.specs.Paths.{Orderable, placed}
-use Rattle.order.specs.Search.{WorkRoom, mark, IsBlank, Seen, Stands, zeros}
+use Rattle.order.specs.Search.{WorkRoom, mark, IsBlank, Seen, HasPlace, zeros}
 
 -- two cells are the same or not
 pub same : (x y : CellNo) → Dec (x ≡ y)
@@ -50,8 +50,8 @@ pub placed-other : (column : List ℕ) (i j : ℕ) (x : CellNo) → (i ≡ j →
 placed-other column i j x n = ap cellNo (getD-set-other column j i (ofCell x) 0 n)
 
 -- a store past the first n leaves what stands among them
-pub still-stands : {column : List ℕ} {n : ℕ} {y : CellNo} (m k : ℕ) (x : CellNo) → n ≤ m → n ≤ k → Stands column n y
-    → Stands (set column m (ofCell x)) k y
+pub still-stands : {column : List ℕ} {n : ℕ} {y : CellNo} (m k : ℕ) (x : CellNo) → n ≤ m → n ≤ k → HasPlace column n y
+    → HasPlace (set column m (ofCell x)) k y
 still-stands {column} m k x h h′ w =
     record {
       place = w .place;

@@ -16,7 +16,7 @@ use Rattle.cells.specs.declared.Pins.the-variants.{None, Two}
 use Rattle.cells.specs.Needs.{IsCell, pinsOf, Needs, Closed}
 use Rattle.cells.proofs.Needing.{needs-cell, needs-as, needs-first, needs-second, needs-only, needs-none}
 use Rattle.order.specs.Paths.{Reaches, one, more, OnCycle, placed}
-use Rattle.order.specs.Search.{WorkRoom, mark, IsBlank, Seen, Stands, zeros, HasCycle, Hunting, Noted, old, new, Expanded}
+use Rattle.order.specs.Search.{WorkRoom, mark, IsBlank, Seen, HasPlace, zeros, HasCycle, Hunting, Noted, old, new, Expanded}
 use Rattle.order.proofs.Columns.{same, mark-same, mark-other, still-seen, placed-same, placed-other, still-stands, zeros-new, zeros-all, still-lent}
 
 -- Nothing is marked.
@@ -78,7 +78,7 @@ module _ {cells : List Cell} {marks stack : List ℕ} {c e : CellNo} {top : ℕ}
   hunts-new =
       record {
         sound = each (Reaches cells c) way (h .sound);
-        closed = λ x z s. each (λ (w : CellNo). Needs cells w z → Seen marks′ z ⊎ (Stands stack′ (top + 1) w ⊎ (w ≡ e))) (new-one z) (old-one z) x s;
+        closed = λ x z s. each (λ (w : CellNo). Needs cells w z → Seen marks′ z ⊎ (HasPlace stack′ (top + 1) w ⊎ (w ≡ e))) (new-one z) (old-one z) x s;
         waits = waits;
         within = each (IsCell cells) is (h .within);
         room = omega (arith, one-less, h .room);
@@ -102,10 +102,10 @@ module _ {cells : List Cell} {marks stack : List ℕ} {c e : CellNo} {top : ℕ}
           go (yes q) = subst⁻¹ P q at-y
           go (no n) = before x (rw (mark-other marks y x 1 n) at s)
 
-      new-one : (z : CellNo) → Needs cells y z → Seen marks′ z ⊎ (Stands stack′ (top + 1) y ⊎ (y ≡ e))
+      new-one : (z : CellNo) → Needs cells y z → Seen marks′ z ⊎ (HasPlace stack′ (top + 1) y ⊎ (y ≡ e))
       new-one z needs = inr (inl (record { place = top; low = omega arith; is = placed-same stack top y in-stack }))
 
-      old-one : (z w : CellNo) → Seen marks w → Needs cells w z → Seen marks′ z ⊎ (Stands stack′ (top + 1) w ⊎ (w ≡ e))
+      old-one : (z w : CellNo) → Seen marks w → Needs cells w z → Seen marks′ z ⊎ (HasPlace stack′ (top + 1) w ⊎ (w ≡ e))
       old-one z w s needs =
           ⊎-elim (λ t. inl (kept z t)) (λ t. inr (⊎-elim (λ u. inl (still-stands top (top + 1) y (omega arith) (omega arith) u)) (λ q. inr q) t))
           (h .closed w z s needs)
@@ -132,7 +132,7 @@ no-exception : {cells : List Cell} {marks stack : List ℕ} {c x : CellNo} {top 
 no-exception {cells} {marks} {stack} {c} {x} {top} h all =
     record { sound = h .sound; closed = closed; waits = h .waits; within = h .within; room = h .room; lent = h .lent }
   where
-    closed : (w y : CellNo) → Seen marks w → Needs cells w y → Seen marks y ⊎ (Stands stack top w ⊎ (w ≡ cellNo (length cells)))
+    closed : (w y : CellNo) → Seen marks w → Needs cells w y → Seen marks y ⊎ (HasPlace stack top w ⊎ (w ≡ cellNo (length cells)))
     closed w y s needs =
         ⊎-elim (λ t. inl t) (⊎-elim (λ t. inr (inl t)) (λ q. inl (all y (needs-as (sym q) refl needs)))) (h .closed w y s needs)
 
@@ -191,7 +191,7 @@ join (more h way) needs = more h (join way needs)
 
 -- what is seen and does not wait has all that it needs seen
 settled : {cells : List Cell} {marks stack : List ℕ} {c : CellNo} {top : ℕ} → Between cells c marks stack top → (x y : CellNo) → Seen marks x
-    → Needs cells x y → Seen marks y ⊎ Stands stack top x
+    → Needs cells x y → Seen marks y ⊎ HasPlace stack top x
 settled b x y s needs =
     ⊎-elim (λ t. inl t) (⊎-elim (λ t. inr t) (λ e. absurd (omega (arith, b .hunting .within x s, ap ofCell e)))) (b .hunting .closed x y s needs)
 
@@ -215,10 +215,10 @@ module _ {cells : List Cell} {marks stack : List ℕ} {c : CellNo} {top : ℕ} (
         lent = b .hunting .lent;
       }
     where
-      closed : (w y : CellNo) → Seen marks w → Needs cells w y → Seen marks y ⊎ (Stands stack (top - 1) w ⊎ (w ≡ x))
+      closed : (w y : CellNo) → Seen marks w → Needs cells w y → Seen marks y ⊎ (HasPlace stack (top - 1) w ⊎ (w ≡ x))
       closed w y s needs = ⊎-elim (λ t. inl t) (λ t. inr (go t (ℕ-discrete (t .place) (top - 1)))) (settled b w y s needs)
         where
-          go : (t : Stands stack top w) → Dec (t .place ≡ top - 1) → Stands stack (top - 1) w ⊎ (w ≡ x)
+          go : (t : HasPlace stack top w) → Dec (t .place ≡ top - 1) → HasPlace stack (top - 1) w ⊎ (w ≡ x)
           go t (yes e) = inr (sym (t .is) ∙ ap (placed stack) e ∙ last)
           go t (no n) = inl (record { place = t .place; low = omega (arith, t .low); is = t .is })
 

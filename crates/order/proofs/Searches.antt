@@ -13,7 +13,7 @@ use Rattle.cells.specs.declared.Cell.{Cell}
 use Rattle.cells.specs.Needs.{IsCell, Needs}
 use Rattle.cells.proofs.Needing.{needs-as}
 use Rattle.order.specs.Paths.{Reaches, one, more, OnCycle, placed, Ordered}
-use Rattle.order.specs.Search.{WorkRoom, mark, Seen, IsOpen, IsDone, Stands, zeros, IsBlank, Searching, Went, Through}
+use Rattle.order.specs.Search.{WorkRoom, mark, Seen, IsOpen, IsDone, HasPlace, zeros, IsBlank, Searching, Went, Through}
 use Rattle.order.proofs.Columns.{same, mark-same, mark-other, still-seen, seen-low, placed-same, placed-other, still-stands, zeros-new, zeros-again}
 use Rattle.order.proofs.Columns.{zeros-all, zeros-none, still-lent}
 
@@ -82,10 +82,10 @@ module _ {cells : List Cell} {marks stack order : List ℕ} {top count : ℕ} (s
       below : (j : ℕ) → j < top → placed stack′ j ≡ placed stack j
       below j h = placed-other stack j top y (λ e. omega arith)
 
-      stacked : (x : CellNo) → IsOpen marks′ x → Stands stack′ (top + 1) x
+      stacked : (x : CellNo) → IsOpen marks′ x → HasPlace stack′ (top + 1) x
       stacked x h = go (same x y)
         where
-          go : Dec (x ≡ y) → Stands stack′ (top + 1) x
+          go : Dec (x ≡ y) → HasPlace stack′ (top + 1) x
           go (yes e) = record { place = top; low = omega arith; is = on-top top refl ∙ sym e }
           go (no n) = still-stands top (top + 1) y (omega arith) (omega arith) (s .stacked x (sym (mark-other marks y x 1 n) ∙ h))
 
@@ -118,10 +118,10 @@ module _ {cells : List Cell} {marks stack order : List ℕ} {top count : ℕ} (s
           go (yes e) = needs-as (below j j-low) (on-top (j + 1) e) (needed j e)
           go (no n) = needs-as (below j j-low) (below (j + 1) (omega arith)) (s .way j (omega arith))
 
-      listed : (x : CellNo) → IsDone marks′ x → Stands order count x
+      listed : (x : CellNo) → IsDone marks′ x → HasPlace order count x
       listed x h = go (same x y)
         where
-          go : Dec (x ≡ y) → Stands order count x
+          go : Dec (x ≡ y) → HasPlace order count x
           go (yes e) = absurd (omega (arith, ap (mark marks′) e, mark-same marks y 1 in-marks))
           go (no n) = s .listed x (rw (mark-other marks y x 1 n) at h)
 
@@ -177,10 +177,10 @@ module _ {cells : List Cell} {marks stack order : List ℕ} {top count : ℕ} (s
       before : (j : ℕ) → j < count → placed order′ j ≡ placed order j
       before j h = placed-other order j count x (λ e. omega arith)
 
-      stacked : (y : CellNo) → IsOpen marks′ y → Stands stack (top - 1) y
+      stacked : (y : CellNo) → IsOpen marks′ y → HasPlace stack (top - 1) y
       stacked y h = go (same y x)
         where
-          go : Dec (y ≡ x) → Stands stack (top - 1) y
+          go : Dec (y ≡ x) → HasPlace stack (top - 1) y
           go (yes e) = absurd (omega (arith, ap (mark marks′) e, now-done))
           go (no n) =
               let w = s .stacked y (sym (mark-other marks x y 2 n) ∙ h) in
@@ -191,10 +191,10 @@ module _ {cells : List Cell} {marks stack order : List ℕ} {top count : ℕ} (s
       opened j h =
           mark-other marks x (placed stack j) 2 (λ e. s .apart j (top - 1) h (omega arith) (e ∙ sym last)) ∙ s .opened j (omega arith)
 
-      listed : (y : CellNo) → IsDone marks′ y → Stands order′ (count + 1) y
+      listed : (y : CellNo) → IsDone marks′ y → HasPlace order′ (count + 1) y
       listed y h = go (same y x)
         where
-          go : Dec (y ≡ x) → Stands order′ (count + 1) y
+          go : Dec (y ≡ x) → HasPlace order′ (count + 1) y
           go (yes e) = record { place = count; low = omega arith; is = at-last count refl ∙ sym e }
           go (no n) = still-stands count (count + 1) x (omega arith) (omega arith) (s .listed y (rw (mark-other marks x y 2 n) at h))
 
@@ -223,10 +223,10 @@ module _ {cells : List Cell} {marks stack order : List ℕ} {top count : ℕ} (s
           go (yes q) = other i i-low (sym (before i i-low) ∙ e ∙ at-last j q)
           go (no n) = let j-low : j < count = omega arith in s .once i j h j-low (sym (before i i-low) ∙ e ∙ before j j-low)
 
-      after : (j : ℕ) (y : CellNo) → j < count + 1 → Needs cells (placed order′ j) y → Stands order′ j y
+      after : (j : ℕ) (y : CellNo) → j < count + 1 → Needs cells (placed order′ j) y → HasPlace order′ j y
       after j y h needs = go (ℕ-discrete j count)
         where
-          go : Dec (j ≡ count) → Stands order′ j y
+          go : Dec (j ≡ count) → HasPlace order′ j y
           go (yes e) =
               still-stands count j x (omega arith) (omega arith) (s .listed y (ready y (needs-as (sym (at-last j e)) refl needs)))
           go (no n) =

@@ -44,7 +44,7 @@ abbrev pub IsDone : List ℕ → CellNo → Type 0
 IsDone marks x = 1 < mark marks x
 
 -- x has a place among the first n
-pub record Stands (column : List ℕ) (n : ℕ) (x : CellNo) : Type 0 where
+pub record HasPlace (column : List ℕ) (n : ℕ) (x : CellNo) : Type 0 where
   pub place : ℕ
   pub low : place < n
   pub is : placed column place ≡ x
@@ -59,14 +59,14 @@ zeros (suc n) (suc m ∷ marks) = zeros n marks
 -- the search for an order: the open cells are those on the stack, each needed by the one below it; the done cells are those placed, each after what
 -- it needs
 pub record Searching (cells : List Cell) (marks stack order : List ℕ) (top count : ℕ) : Type 0 where
-  pub stacked : (x : CellNo) → IsOpen marks x → Stands stack top x
+  pub stacked : (x : CellNo) → IsOpen marks x → HasPlace stack top x
   pub opened : (j : ℕ) → j < top → IsOpen marks (placed stack j)
   pub apart : (i j : ℕ) → i < j → j < top → placed stack i ≡ placed stack j → ⊥
   pub way : (j : ℕ) → j + 1 < top → Needs cells (placed stack j) (placed stack (j + 1))
-  pub listed : (x : CellNo) → IsDone marks x → Stands order count x
+  pub listed : (x : CellNo) → IsDone marks x → HasPlace order count x
   pub done : (j : ℕ) → j < count → IsDone marks (placed order j)
   pub once : (i j : ℕ) → i < j → j < count → placed order i ≡ placed order j → ⊥
-  pub after : (j : ℕ) (y : CellNo) → j < count → Needs cells (placed order j) y → Stands order j y
+  pub after : (j : ℕ) (y : CellNo) → j < count → Needs cells (placed order j) y → HasPlace order j y
   pub within : (x : CellNo) → Seen marks x → IsCell cells x
   pub room : count + (top + zeros (length cells) marks) ≡ length cells
   pub lent : WorkRoom cells marks stack
@@ -115,7 +115,7 @@ AllVisited cells order Cyclic = HasCycle cells
 -- the search for what the cell c reaches: all that is seen is reached, and what a seen cell needs is seen, unless that cell waits on the stack or is e
 pub record Hunting (cells : List Cell) (c : CellNo) (marks stack : List ℕ) (top : ℕ) (e : CellNo) : Type 0 where
   pub sound : (x : CellNo) → Seen marks x → Reaches cells c x
-  pub closed : (x y : CellNo) → Seen marks x → Needs cells x y → Seen marks y ⊎ (Stands stack top x ⊎ (x ≡ e))
+  pub closed : (x y : CellNo) → Seen marks x → Needs cells x y → Seen marks y ⊎ (HasPlace stack top x ⊎ (x ≡ e))
   pub waits : (j : ℕ) → j < top → Seen marks (placed stack j)
   pub within : (x : CellNo) → Seen marks x → IsCell cells x
   pub room : top + zeros (length cells) marks ≤ length cells

@@ -27,36 +27,36 @@ use Rattle.files.specs.File.{fileBytes}
 use Rattle.files.specs.Read.{FileOutcome, netlist as file, faulty as noFile, readFile}
 
 -- what reading answers: "0 is acceptance, place 0, with statement .. counts", "a refusal's counts .. are 0"
-pub record Reading : Type 0 where
+pub record ReadAnswer : Type 0 where
   pub number : ℕ
   pub place : ℕ
   pub statements : ℕ
 
-unfoldable pub reading : SheetOutcome → Reading
+unfoldable pub reading : SheetOutcome → ReadAnswer
 unfolding size
 reading (sheet w) = record { number = 0; place = 0; statements = size (w .root) }
 reading (faulty f) = record { number = refusalNo (f .refusal); place = f .place; statements = 0 }
 
 -- what is answered after reading, and then INSTANT and TWICE: a number and its place
-pub record Answer : Type 0 where
+pub record FaultAnswer : Type 0 where
   pub number : ℕ
   pub place : ℕ
 
-abbrev answer : ℕ → ℕ → Answer
+abbrev answer : ℕ → ℕ → FaultAnswer
 answer x place = record { number = x; place = place }
 
-unfoldable pub faultOf : Found → Found → Answer
+unfoldable pub faultOf : Found → Found → FaultAnswer
 faultOf (At n) g = answer (refusalNo Instant) (ofStmt n)
 faultOf Clear (At n) = answer (refusalNo Twice) (ofStmt n)
 faultOf Clear Clear = answer 0 0
 
-unfoldable pub answered : SheetOutcome → Answer
+unfoldable pub answered : SheetOutcome → FaultAnswer
 unfolding faultOf instant twice
 answered (faulty f) = answer (refusalNo (f .refusal)) (f .place)
 answered (sheet w) = faultOf (instant (stmtNo 0) (w .root)) (twice (stmtNo 0) (w .root))
 
 -- An instant, sets and states as words: the event and the set E, whether E agrees with the rules, and what the reaction gives.
-pub record Moment : Type 0 where
+pub record Tried : Type 0 where
   pub event : ℕ
   pub present : ℕ
   pub agrees : Bool
@@ -70,7 +70,7 @@ agreeing (suc n) e j o =
     Bool·beq (has e n) ((only tick (signalNo n) || has j n) || o .emits (signalNo n)) && agreeing n e j o
 
 -- the moments of t, which has n signals, from the state S on
-unfoldable pub moments : ℕ → Stmt → ℕ → List Moment → List Moment
+unfoldable pub moments : ℕ → Stmt → ℕ → List Tried → List Tried
 unfolding react wordOf agreeing
 moments n t S [] = []
 moments n t S (m ∷ ms) =
@@ -86,7 +86,7 @@ moments n t S (m ∷ ms) =
     ∷ moments n t next ms
 
 -- a state as a word, and whether it fits
-pub record Judged : Type 0 where
+pub record JudgedState : Type 0 where
   pub state : ℕ
   pub fitting : Bool
 
@@ -129,23 +129,23 @@ clocks I O cells S (c ∷ cs) =
 -- netlist, and its clocks from the fresh state on; the netlist's file.
 pub record Case : Type 0 where
   pub bytes : List ℕ
-  pub read : Reading
-  pub checked : Answer
-  pub runs : List Moment
-  pub states : List Judged
+  pub read : ReadAnswer
+  pub checked : FaultAnswer
+  pub runs : List Tried
+  pub states : List JudgedState
   pub cells : List Cell
   pub clocked : List Clocked
   pub file : List ℕ
 
-unfoldable pub runsOf : SheetOutcome → List Moment → List Moment
+unfoldable pub runsOf : SheetOutcome → List Tried → List Tried
 unfolding moments localCount
 runsOf (faulty f) ms = []
 runsOf (sheet w) ms = moments (1 + w .inputs + w .outputs + localCount (w .root)) (w .root) 0 ms
 
-unfoldable pub statesOf : SheetOutcome → List Judged → List Judged
+unfoldable pub statesOf : SheetOutcome → List JudgedState → List JudgedState
 unfolding fits
 statesOf (faulty f) js = []
-statesOf (sheet w) js = map (λ (j : Judged). record { state = j .state; fitting = fits (has (j .state)) (w .root) }) js
+statesOf (sheet w) js = map (λ (j : JudgedState). record { state = j .state; fitting = fits (has (j .state)) (w .root) }) js
 
 -- the netlist of a sheet that was read
 unfoldable pub cellsOf : SheetOutcome → List Cell
@@ -197,7 +197,7 @@ computed k =
     }
 
 -- Columns of which nothing is said are empty.
-abbrev accepted : List ℕ → ℕ → List Moment → List Judged → Case
+abbrev accepted : List ℕ → ℕ → List Tried → List JudgedState → Case
 accepted s n ms js =
     record { bytes = s; read = record { number = 0; place = 0; statements = n }; checked = answer 0 0; runs = ms; states = js; cells = []; clocked = []; file = [] }
 
@@ -211,10 +211,10 @@ unchecked s n x place =
     record { bytes = s; read = record { number = 0; place = 0; statements = n }; checked = answer x place; runs = []; states = []; cells = []; clocked = []; file = [] }
 
 -- with the event j, E agrees, and gives the emissions and the next state
-abbrev moment : ℕ → ℕ → ℕ → ℕ → Moment
+abbrev moment : ℕ → ℕ → ℕ → ℕ → Tried
 moment j e emits next = record { event = j; present = e; agrees = true; emits = emits; next = next }
 
-abbrev judged : ℕ → Bool → Judged
+abbrev judged : ℕ → Bool → JudgedState
 judged S b = record { state = S; fitting = b }
 
 -- with the event j, the nets' values v solve the cells, and give the outputs and the next state

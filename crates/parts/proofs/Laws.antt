@@ -22,7 +22,7 @@ use Rattle.cells.specs.Cells.{low, signalCell}
 use Rattle.cells.specs.Words.{word}
 use Rattle.gates.specs.Folding.{New, new, orAt, andAt, butnotAt}
 use Rattle.gates.specs.Rows.{code, only, withCode0, trapRow, orRow, pairs, parallelRow}
-use Rattle.gates.specs.Store.{parallelCells, Wrote, Makes, MakesRow, MakesHighest}
+use Rattle.gates.specs.Store.{parallelCells, WroteCells, Makes, MakesRow, MakesHighest}
 use Rattle.gates.proofs.Laws.{wrote-none, wrote-more, wrote-fill}
 use Rattle.parts.specs.declared.Returned.{Returned}
 use Rattle.parts.specs.declared.Opened.{Opened}
@@ -76,7 +76,7 @@ unfolding buildHalt
 halt-builds {l} {l₁} {l₂} {l₃} {l₄} {l₅} {n} {n₁} {n₂} {n₃} {n₄} {h} {x} {v} {d} ls g r i mh mx mv md ef ek =
     let eh : h ≡ cellNo n = mh .is in
     let next : suc n ≡ n₁ = sym (add-one n) ∙ sym (mh .wrote .counted) in
-    let w : Wrote l (set l₄ n (word (Register d))) n n₄
+    let w : WroteCells l (set l₄ n (word (Register d))) n n₄
     (Register d ∷ ((andAt n₁ r h) .cells ++ ((orAt n₂ g x) .cells ++ (butnotAt n₃ v i) .cells))) =
     wrote-fill (mh .wrote) (wrote-more (mx .wrote) (wrote-more (mv .wrote) (md .wrote))) in
     let filled : l₅ ≡ set l₄ n (word (Register d)) = ef ∙ ap (λ (c : CellNo). set l₄ (ofCell c) (word (Register d))) eh in

@@ -20,7 +20,7 @@ use Rattle.cells.specs.declared.Cell.the-variants.{Gate}
 use Rattle.cells.specs.Cells.{low, signalCell}
 use Rattle.gates.specs.Folding.{New, andAt, butnotAt}
 use Rattle.gates.specs.Rows.{code}
-use Rattle.gates.specs.Store.{parallelCells, Wrote}
+use Rattle.gates.specs.Store.{parallelCells, WroteCells}
 use Rattle.parts.specs.declared.Returned.{Returned}
 use Rattle.parts.specs.declared.Opened.{Opened}
 use Rattle.parts.specs.Equations.{Built, past, Joined, buildSequence, buildLoop, buildPresent, buildWatching, buildParallel, buildTrap}
@@ -35,7 +35,7 @@ nets ls = map cellNo ls
 
 -- a statement was built: its cells are stored from n on, and the lists' column, sel and codes are its own
 pub record Builds (o : Built) (l l′ ls′ : List ℕ) (n : ℕ) (b : Returned) : Type 0 where
-  pub wrote : Wrote l l′ n (b .count) (o .cells)
+  pub wrote : WroteCells l l′ n (b .count) (o .cells)
   pub lists : nets ls′ ≡ o .lists
   pub sel : b .sel ≡ o .sel
   pub codes : b .codes ≡ o .codes
@@ -90,7 +90,7 @@ closeTwo Parallel keep n g i p q = buildParallel n i keep p q
 
 -- what is so when the parts are to be built
 pub record Opens (o : Opening) (l l′ : List ℕ) (n : ℕ) (w : Opened) : Type 0 where
-  pub wrote : Wrote l l′ n (w .count) (o .cells)
+  pub wrote : WroteCells l l′ n (w .count) (o .cells)
   pub go-is : w .go ≡ o .go
   pub other-is : w .other ≡ o .other
   pub res-is : w .res ≡ o .res
@@ -99,7 +99,7 @@ pub record Opens (o : Opening) (l l′ : List ℕ) (n : ℕ) (w : Opened) : Type
 -- What closing ensures: whatever was opened from n on, and whose parts are built, is the statement. So a reserved cell that is filled, cells that
 -- follow, and a statement that adds none have one form.
 pub record ClosesOne (u : Unary) (n : ℕ) (g r : CellNo) (l₂ l₃ : List ℕ) (p b : Returned) : Type 0 where
-  pub closes : (l l₁ ls : List ℕ) (n₁ : ℕ) (i : CellNo) (x : Built) → Wrote l l₁ n n₁ ((openOne u n g r i) .cells)
+  pub closes : (l l₁ ls : List ℕ) (n₁ : ℕ) (i : CellNo) (x : Built) → WroteCells l l₁ n n₁ ((openOne u n g r i) .cells)
       → Builds x l₁ l₂ ls n₁ p → Builds (closeOne u n g r x) l l₃ ls n b
 
 -- where a statement with two parts began, its go and its kill
@@ -110,12 +110,12 @@ pub record Begun : Type 0 where
 
 pub record ClosesTwo (b : Binary) (keep : ℕ → Bool) (w : Begun) (l₃ l₄ : List ℕ) (p q s : Returned) : Type 0 where
   pub closes : (l l₁ l₂ ls₁ ls₂ : List ℕ) (n₁ : ℕ) (r : CellNo) (x y : Built)
-      → Wrote l l₁ (w .start) n₁ ((openTwo b (w .start) (w .go) r (w .kill)) .cells) → Builds x l₁ l₂ ls₁ n₁ p → Builds y l₂ l₃ ls₂ (p .count) q
+      → WroteCells l l₁ (w .start) n₁ ((openTwo b (w .start) (w .go) r (w .kill)) .cells) → Builds x l₁ l₂ ls₁ n₁ p → Builds y l₂ l₃ ls₂ (p .count) q
       → Builds (closeTwo b keep (w .start) (w .go) (w .kill) x y) l l₄ ls₂ (w .start) s
 
 -- the or's of two parts are made
 pub record Joins (j : Joined) (l l′ : List ℕ) (n : ℕ) (b : Returned) : Type 0 where
-  pub wrote : Wrote l l′ n (b .count) (j .cells)
+  pub wrote : WroteCells l l′ n (b .count) (j .cells)
   pub sel : b .sel ≡ j .sel
   pub codes : b .codes ≡ j .codes
 

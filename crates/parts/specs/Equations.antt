@@ -20,7 +20,7 @@ use Rattle.cells.specs.declared.Gate.the-variants.{Or}
 use Rattle.cells.specs.declared.Cell.the-variants.{Gate, Register}
 use Rattle.cells.specs.Cells.{low, signalCell}
 use Rattle.gates.specs.Folding.{New, orAt, andAt, butnotAt}
-use Rattle.gates.specs.Rows.{code, only, withCode0, Row, orRow, trapRow, pairs, Highest, parallelRow, killOf}
+use Rattle.gates.specs.Rows.{code, only, withCode0, NewRow, orRow, trapRow, pairs, NewCodes, parallelRow, killOf}
 
 -- what a statement returns
 pub record Built : Type 0 where
@@ -65,7 +65,7 @@ pub record Joined : Type 0 where
 abbrev pub joined : ℕ → CellNo → CellNo → List CellNo → List CellNo → Joined
 joined n s₁ s₂ ps qs =
     let s : New = orAt n s₁ s₂ in
-    let c : Row = orRow (past n s) ps qs in
+    let c : NewRow = orRow (past n s) ps qs in
     record { cells = s .cells ++ c .cells; sel = s .net; codes = c .nets }
 
 -- "sequence: p; q with go p's code 0; sel or; codes from 1 up or'ed (p first), code 0 is q's.": p's cells begin at n
@@ -104,7 +104,7 @@ unfoldable pub buildParallel : ℕ → CellNo → (ℕ → Bool) → Built → B
 buildParallel n i keep p q =
     let n₂ : ℕ = suc n + length (p .cells) + length (q .cells) in
     let s : New = orAt n₂ (p .sel) (q .sel) in
-    let c : Highest = parallelRow (past n₂ s) keep (pairs (p .codes) (q .codes)) in
+    let c : NewCodes = parallelRow (past n₂ s) keep (pairs (p .codes) (q .codes)) in
     record { cells = Gate Or i (killOf c) ∷ (p .cells ++ (q .cells ++ (s .cells ++ c .cells))); sel = s .net; codes = c .nets; lists = q .lists }
 
 -- "trap: code 0 = or(p's 0, p's 2); 1 stays; j is p's j+1.": p's cells begin at n

@@ -3,12 +3,12 @@ use Prim.Native.Nat.{_+_, _-_, _<_}
 use native.Mathlib.Omega.{arith}
 use borrow.Author.Needs.{needs}
 use Rattle.limits.specs.Limits.{maxSignals}
-use Rattle.builder.proofs.Ends.{Inputs, inputs-start, inputs-step, inputs-length, inputs-end}
+use Rattle.builder.proofs.Ends.{InputLoop, inputs-start, inputs-step, inputs-length, inputs-end}
 use Rattle.builder.proofs.input_cells.Statement.{statement}
 use Rattle.builder.proofs.input_cells.Tie as tie
 
 abbrev Inv-loop : tie.InvT-loop
-Inv-loop cells₀ inputs s₀ cells s = Inputs cells₀ cells inputs s × (inputs < maxSignals)
+Inv-loop cells₀ inputs s₀ cells s = InputLoop cells₀ cells inputs s × (inputs < maxSignals)
 
 abbrev μ-loop : tie.MeasureT-loop
 μ-loop cells₀ inputs s₀ cells s = inputs + 1 - s

@@ -7,12 +7,12 @@ use lib.ListN.{length}
 use Rattle.limits.specs.Limits.{maxSignals}
 use Rattle.parts.specs.Contract.{nets}
 use Rattle.parts.proofs.Laws.{nets-at}
-use Rattle.builder.proofs.Ends.{Signals, signals-step, signals-length, signals-end}
+use Rattle.builder.proofs.Ends.{SignalLoop, signals-step, signals-length, signals-end}
 use Rattle.builder.proofs.signal_cells.Statement.{statement}
 use Rattle.builder.proofs.signal_cells.Tie as tie
 
 abbrev Inv-loop : tie.InvT-loop
-Inv-loop cells₀ lists from end s₀ cells s = Signals (nets lists) cells₀ cells from end s × (end ≤ maxSignals) × (length lists ≡ maxSignals)
+Inv-loop cells₀ lists from end s₀ cells s = SignalLoop (nets lists) cells₀ cells from end s × (end ≤ maxSignals) × (length lists ≡ maxSignals)
 
 abbrev μ-loop : tie.MeasureT-loop
 μ-loop cells₀ lists from end s₀ cells s = end - s
