@@ -969,7 +969,7 @@ krankovel_answer krankovel_fits(const uint8_t *sheet, size_t length, uint64_t st
 
 bool krankovel_rest(uint64_t state)
 {
-    return state >> 1 == 0;
+    return state == 1;
 }
 
 krankovel_reaction krankovel_react(const uint8_t *sheet, size_t length, uint64_t state, uint64_t event)

@@ -164,7 +164,7 @@ krankovel_listing krankovel_compile_cells(const uint8_t *sheet, size_t length, u
 /* Whether a state fits a sheet. Refusals: 1 to 12; 14 where it does not. */
 krankovel_answer krankovel_fits(const uint8_t *sheet, size_t length, uint64_t state);
 
-/* Whether a state is at rest: no halt bit is set. */
+/* Whether a state is at rest: boot is on and no halt bit is set. Fresh, 0, is not. */
 bool krankovel_rest(uint64_t state);
 
 /* The reaction of a sheet to an event, by the rules: all signals that are emitted, locals too, and the next state. Refusals: 1 to 12, 13, 14. */

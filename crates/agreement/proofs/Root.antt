@@ -22,9 +22,9 @@ use Rattle.sheet.proofs.Notions.{Numbered, inHalts, proper-numbered, proper-exi
 use Rattle.sets.specs.declared.Found.the-variants.{Clear}
 use Rattle.sets.specs.Faults.{instant}
 use Rattle.rules.specs.Rules.{Signals, Halts, idle, start, active, resume}
-use Rattle.rules.specs.States.{State, haltsOf, react, nextState, apart, fits, atRest}
+use Rattle.rules.specs.States.{State, haltsOf, react, nextState, apart, fits, noHaltsFrom}
 use Rattle.rules.proofs.Codes.{no-instant}
-use Rattle.rules.proofs.Again.{booted-apart, rest-inactive, rest-apart}
+use Rattle.rules.proofs.Again.{booted-apart, quiet-inactive, quiet-apart}
 use Rattle.rules.proofs.Own.{react-keeps, kept-numbers}
 use Rattle.cells.specs.declared.Cell.{Cell}
 use Rattle.cells.specs.declared.Cell.the-variants.{Low, High, Gate, Register}
@@ -56,17 +56,17 @@ no-halt-past t numbered E S h l = off ((react E S t) .halts (haltNo h)) (λ on. 
 -- A state that fits, of a sheet that was read and has neither INSTANT nor TWICE.
 module _ {I O : ℕ} {t : Stmt} (proper : Proper I O t) (clear : instant (stmtNo 0) t ≡ Clear) (once : NoTwice t)
     (S : State) (fit : fits S t ≡ true) where
-  unbooted : S boot ≡ false → atRest S ≡ true
-  unfolding fits pick atRest
+  unbooted : S boot ≡ false → noHaltsFrom 0 S ≡ true
+  unfolding fits pick
   unbooted off = rw off at fit
 
   -- with boot off no halt is set
   fresh-inactive : S boot ≡ false → active (haltsOf S) t ≡ false
-  fresh-inactive off = rest-inactive proper S (unbooted off)
+  fresh-inactive off = quiet-inactive proper S (unbooted off)
 
   halts-apart : (b : Bool) → S boot ≡ b → apart (haltsOf S) t ≡ true
   halts-apart true on = booted-apart S t fit on
-  halts-apart false off = rest-apart proper S (unbooted off)
+  halts-apart false off = quiet-apart proper S (unbooted off)
 
   root-sound : Sound (haltsOf S) t
   root-sound =

@@ -1,4 +1,4 @@
--- What a reaction returns fits again, and so do fresh and a state at rest; a state at rest with boot on does nothing and stays at rest.
+-- What a reaction returns fits again, and so do fresh and a state at rest; a state at rest does nothing and stays at rest.
 use mathlib.Core.Path.{_≡_, refl, sym, ap, _∙_, subst}
 use mathlib.Core.Bool.{Bool, true, false, not, _&&_, _||_, true≢false, false≢true}
 use Prim.Native.Nat.{ℕ, zero, suc, _+_, _-_, _<_, _≤_}
@@ -21,7 +21,7 @@ use Rattle.sets.specs.declared.Found.the-variants.{Clear}
 use Rattle.sets.specs.Codes.{same, empty, join, larger, caught}
 use Rattle.sets.specs.Static.{K, R}
 use Rattle.sets.specs.Faults.{instant}
-use Rattle.number.proofs.Bools.{taut, and-both, and-right, or-left, or-right, or-none}
+use Rattle.number.proofs.Bools.{taut, and-both, and-left, and-right, or-left, or-right, or-none}
 use Rattle.limits.specs.Limits.{maxHalts}
 use Rattle.bits.specs.Bits.{boot, haltBit, noBits}
 use Rattle.bits.proofs.NoBits.{no-bits, bit-off}
@@ -424,36 +424,49 @@ pub fits-fresh : (t : Stmt) → fits fresh t ≡ true
 unfolding fits pick noBits
 fits-fresh t = refl
 
--- At rest with boot on: nothing is done, and the next state is at rest. (Fresh is at rest too; it has boot off, and starts.)
-module _ {i o : ℕ} {t : Stmt} (proper : Proper i o t) (S : State) (rest : atRest S ≡ true) where
+-- No halt set: none of the statement's halts is, and nothing is to be kept apart.
+module _ {i o : ℕ} {t : Stmt} (proper : Proper i o t) (S : State) (quiet : noHaltsFrom 0 S ≡ true) where
   halts-off : On t (haltsOf S) empty
-  unfolding atRest
   halts-off h e =
       let inside = halt-within (haltNo 0) t (proper-numbered proper) h e in
-      bit-off maxHalts (haltBit (haltNo 0)) S rest (haltBit h) (omega arith) (omega (arith, inside .1, proper .halts))
+      bit-off maxHalts (haltBit (haltNo 0)) S quiet (haltBit h) (omega arith) (omega (arith, inside .1, proper .halts))
 
-  -- none of its halts is set, and nothing is to be kept apart
-  pub rest-inactive : active (haltsOf S) t ≡ false
-  rest-inactive = none (haltsOf S) t halts-off
+  pub quiet-inactive : active (haltsOf S) t ≡ false
+  quiet-inactive = none (haltsOf S) t halts-off
 
-  pub rest-apart : apart (haltsOf S) t ≡ true
-  rest-apart = none-apart (haltsOf S) t halts-off
+  pub quiet-apart : apart (haltsOf S) t ≡ true
+  quiet-apart = none-apart (haltsOf S) t halts-off
 
-  pub rest-idle : S boot ≡ true → (E : Signals) → react E S t ≡ idle
+-- A next state has boot on, so whether it is at rest is whether it has a halt.
+pub next-rest : (a : Outcome) → atRest (nextState a) ≡ noHaltsFrom 0 (nextState a)
+unfolding atRest
+next-rest a = refl
+
+-- At rest nothing is done, and the next state is at rest.
+module _ {i o : ℕ} {t : Stmt} (proper : Proper i o t) (S : State) (rest : atRest S ≡ true) where
+  on : S boot ≡ true
+  unfolding atRest
+  on = and-left (S boot) (noHaltsFrom 0 S) rest
+
+  quiet : noHaltsFrom 0 S ≡ true
+  unfolding atRest
+  quiet = and-right (S boot) (noHaltsFrom 0 S) rest
+
+  pub rest-idle : (E : Signals) → react E S t ≡ idle
   unfolding react pick
-  rest-idle on E = rw (on, rest-inactive)
+  rest-idle E = rw (on, quiet-inactive proper S quiet)
 
-  pub rest-fits : S boot ≡ true → fits S t ≡ true
-  unfolding fits pick atRest
-  rest-fits on =
+  pub rest-fits : fits S t ≡ true
+  unfolding fits pick
+  rest-fits =
       let from : ℕ = haltBit (haltNo (haltCount t)) in
       let off : (j : ℕ) → from ≤ j → j < from + (maxHalts - haltCount t) → S j ≡ false =
-      λ j l r. bit-off maxHalts (haltBit (haltNo 0)) S rest j (omega arith) (omega (arith, proper .halts)) in
-      rw on (and-both (noHaltsFrom (haltCount t) S) (apart (haltsOf S) t) (no-bits (maxHalts - haltCount t) from S off) rest-apart)
+      λ j l r. bit-off maxHalts (haltBit (haltNo 0)) S quiet j (omega arith) (omega (arith, proper .halts)) in
+      let past = no-bits (maxHalts - haltCount t) from S off in
+      rw on (and-both (noHaltsFrom (haltCount t) S) (apart (haltsOf S) t) past (quiet-apart proper S quiet))
 
-  pub rest-stays : S boot ≡ true → (E : Signals) → atRest (nextState (react E S t)) ≡ true
-  unfolding atRest
-  rest-stays on E = rw (rest-idle on E) (no-bits maxHalts (haltBit (haltNo 0)) (nextState idle) off)
+  pub rest-stays : (E : Signals) → atRest (nextState (react E S t)) ≡ true
+  rest-stays E = rw (rest-idle E, next-rest idle) (no-bits maxHalts (haltBit (haltNo 0)) (nextState idle) off)
     where
       off : (j : ℕ) → haltBit (haltNo 0) ≤ j → j < haltBit (haltNo 0) + maxHalts → nextState idle j ≡ false
       off zero l r = absurd (omega arith)

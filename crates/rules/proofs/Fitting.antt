@@ -27,7 +27,7 @@ use Rattle.sets.specs.Words.{Low, Entered, Kept}
 use Rattle.sets.proofs.Bounds.{exits-low}
 use Rattle.number.proofs.Bools.{taut}
 use Rattle.rules.specs.Rules.{Halts, active}
-use Rattle.rules.specs.States.{noHaltsFrom, mayEnd, apart, fits, atRest}
+use Rattle.rules.specs.States.{noHaltsFrom, mayEnd, apart, fits}
 use Rattle.rules.specs.Words.{haltsIn, sidesFit, isParallel, Runnable, Inside, Known, PartsFit, ToldApart, root, KnownRoot, Fitted}
 use Rattle.rules.proofs.Walks.{holds-one, run-one, run-left, run-right, inside-few, run-proper}
 
@@ -190,12 +190,12 @@ root-past k = inside-few (k .known .run) .1
 
 -- the whole state
 module _ (rows : List ℕ) (w : ℕ) where
-  pub fits-unbooted : {r : Bool} → has w boot ≡ false → r ≡ atRest (has w) → Fitted rows w r
-  unfolding fits pick atRest
+  pub fits-unbooted : {r : Bool} → has w boot ≡ false → r ≡ noHaltsFrom 0 (has w) → Fitted rows w r
+  unfolding fits pick
   fits-unbooted off e = record { answer = λ t h. rw off e }
 
   abbrev spare : Bool
-  spare = noBits (maxHalts - ofHalt (rowAt rows root .past)) (haltBit (rowAt rows root .past)) (has w)
+  spare = noHaltsFrom (ofHalt (rowAt rows root .past)) (has w)
 
   spare-bits : (t : Stmt) → Holds rows root (haltNo 0) t → noHaltsFrom (haltCount t) (has w) ≡ spare
   spare-bits t h =

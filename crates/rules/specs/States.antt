@@ -70,7 +70,7 @@ unfoldable pub fits : State → Stmt → Bool
 unfolding noBits haltCount apart pick
 fits S t = pick (S boot) (noHaltsFrom (haltCount t) S && apart (haltsOf S) t) (noHaltsFrom 0 S)
 
--- "A state is at rest when no halt bit is set."
+-- "At rest shall mean: boot on and no halt set. Fresh is not at rest."
 unfoldable pub atRest : State → Bool
 unfolding noBits
-atRest S = noHaltsFrom 0 S
+atRest S = S boot && noHaltsFrom 0 S

@@ -6,14 +6,17 @@ use sheet::Binary;
 use sheet::Head;
 use sheet::Leaf;
 use sheet::Unary;
+ghost use Prim.Native.Nat.{_≤_};
 ghost use mathlib.Core.Path.{_≡_};
 ghost use mathlib.Core.Bool.{true};
+ghost use Rattle.number.specs.Counts.{ofHalt};
+ghost use Rattle.limits.specs.Limits.{maxHalts};
 ghost use Rattle.bits.specs.Bits.{has, whole};
 ghost use Rattle.sheet.specs.Rows.{rowAt};
 ghost use Rattle.sheet.specs.Stmt.{leaf};
 ghost use Rattle.sets.specs.Codes.{caught, larger};
 ghost use Rattle.rules.specs.Rules.{Signals, Outcome, idle, followed, beside, trapped, start};
-ghost use Rattle.rules.specs.States.{atRest};
+ghost use Rattle.rules.specs.States.{noHaltsFrom};
 ghost use Rattle.rules.specs.Words.{Means, LeafInBits, Runnable, Started, Resumed, root, Reacted, Next, Inside, Known, ToldApart, KnownRoot, Fitted};
 ghost use Rattle.rules.specs.Words.{isTrap, isParallel, sidesFit, PartsFit};
 
@@ -134,11 +137,12 @@ fn trapped(a: Yield) -> Yield
     }
 }
 
-// "A state is at rest when no halt bit is set."
-pub fn at_rest(state: Bits) -> bool
-    ensures { λ r. ⌜ r ≡ atRest (has (whole state)) ⌝ }
+// No halt from this number on is set.
+pub fn no_halts_from(state: Bits, h: HaltNo) -> bool
+    requires { ⌜ ofHalt h ≤ maxHalts ⌝ }
+    ensures { λ r. ⌜ r ≡ noHaltsFrom (ofHalt h) (has (whole state)) ⌝ }
 {
-    state.none_in(bits::halt_bit(HaltNo::new(0)), limits::MAX_HALTS)
+    state.none_in(bits::halt_bit(h), limits::MAX_HALTS - h.number() as u32)
 }
 
 // Whether one of the state's halts lies inside the statement: its halts are those from its row's first to before its row's past.
@@ -380,13 +384,11 @@ pub fn fits(rows: &[u64], statics: &[u64], state: Bits) -> bool
     ensures { λ r. ⌜ Fitted (now (rows .entry)) (whole state) r ⌝ }
 {
     if !state.member(bits::BOOT) {
-        return at_rest(state);
+        return no_halts_from(state, HaltNo::new(0));
     }
     let root = StmtNo::new(0);
     let row = sheet::row_at(rows, root);
-    let past = row.past;
-    let halts = past.number() as u32;
-    if !state.none_in(bits::halt_bit(past), limits::MAX_HALTS - halts) {
+    if !no_halts_from(state, row.past) {
         return false;
     }
     apart(rows, statics, root, state)

@@ -2,6 +2,7 @@
 use bits::Bits;
 use compiler::Compiled;
 use number::Fault;
+use number::HaltNo;
 use number::Refusal;
 use sheet::SheetRead;
 use verdicts::Answer;
@@ -75,11 +76,14 @@ pub fn fits(s: &[u8], state: Bits) -> Answer
     }
 }
 
-// "A state is at rest when no halt bit is set."
+// "At rest shall mean: boot on and no halt set."
 pub fn rest(state: Bits) -> bool
     ensures { λ r. ⌜ r ≡ atRest (has (whole state)) ⌝ }
 {
-    rules::at_rest(state)
+    if !state.member(bits::BOOT) {
+        return false;
+    }
+    rules::no_halts_from(state, HaltNo::new(0))
 }
 
 // The reactions of a sheet to many events, by the interpreter.

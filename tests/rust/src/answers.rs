@@ -104,7 +104,7 @@ impl Agreement {
         }
         let words: Vec<&[u8]> = line.split(|b| *b == b' ').collect();
         match words[..] {
-            [b"rest", state] => Some(((hex_value(state)? >> 1 == 0) as u32).to_string()),
+            [b"rest", state] => Some(((hex_value(state)? == 1) as u32).to_string()),
             [b"read", sheet] => Some(read_line(&bytes_of(sheet)?)),
             [b"check", sheet] => Some(sheet_line(check(&bytes_of(sheet)?))),
             [b"write", sheet, length] => Some(write_line(&bytes_of(sheet)?, decimal_value(length)?)),

@@ -45,7 +45,7 @@ fn instants(p: &Program, events: &[&[u8]], agreement: &mut Agreement) -> String 
             Err(fault) => text += &format!("no {} {}\n", fault.number, fault.place),
             Ok(reaction) => {
                 state = reaction.next;
-                let rest = if state >> 1 == 0 { 'R' } else { '-' };
+                let rest = if state == 1 { 'R' } else { '-' };
                 text += &format!("{instant} {:x} {state:x} {rest}\n", reaction.shown & outputs);
                 instant += 1;
             }
