@@ -202,6 +202,20 @@ static void try_sheet(const char *hex, const uint8_t *sheet, size_t length)
     try_file(hex, file, size);
 }
 
+/* As many cells as there may be in one chain of ors, from the constants up (step -1) or from the last cell down (step 1), and closed to a cycle at one of its cells. */
+static void try_chain(int step, unsigned closed)
+{
+    static uint64_t words[CELLS];
+    char name[64];
+    snprintf(name, sizeof name, "a chain with step %d, closed at %u", step, closed);
+    for (unsigned n = 0; n < CELLS; n++) {
+        unsigned next = step < 0 ? (closed == n ? CELLS - 1 : n - 1) : (n + 1 < CELLS ? n + 1 : closed ? closed : 1);
+        words[n] = n < 2 ? n : 3 + 8ull * next + 524288ull * (next < 2 ? 0 : next);
+    }
+    krankovel_answer a = krankovel_check_cells(0, 0, words, CELLS);
+    same("its check", name, a.number == (closed ? 12 : 0) && a.place == closed && a.cells == (closed ? 0 : CELLS));
+}
+
 int main(int argc, char **argv)
 {
     static char question[LINE], last[LINE];
@@ -229,6 +243,9 @@ int main(int argc, char **argv)
             try_sheet(hex, b, n);
         }
     }
+    for (unsigned closed = 0; closed < CELLS; closed += closed ? 73 : 2)
+        for (int step = -1; step < 2; step += 2)
+            try_chain(step, closed);
     printf("entries: %lu sheets, %lu files, %lu comparisons, %lu of them differ\n", sheets, files, compared, differing);
     return differing != 0 || compared == 0;
 }

@@ -117,10 +117,10 @@ pub still-lent : {cells : List Cell} {marks marks′ stack stack′ : List ℕ} 
     → length stack′ ≡ length stack → WorkRoom cells marks′ stack′
 still-lent l m s = record { few = l .few; wide = omega (arith, l .wide); deep = omega (arith, l .deep) }
 
--- Columns with an entry for each of the most cells suffice for all cells that can be ordered, and zeros are no marks.
-pub lent : {cells : List Cell} {marks stack order : List ℕ} → Orderable cells order → length marks ≡ maxCells → length stack ≡ maxCells
-    → WorkRoom cells marks stack
-lent o m s = record { few = omega (arith, o .few); wide = omega (arith, o .few); deep = omega (arith, o .few) }
+-- Marks for the most cells, and the column that the order is handed out in, suffice for all cells that can be ordered; zeros are no marks.
+pub lent : {cells : List Cell} {marks order order′ : List ℕ} → Orderable cells order → length marks ≡ maxCells → length order′ ≡ length order
+    → WorkRoom cells marks order′
+lent o m s = record { few = omega (arith, o .few); wide = omega (arith, o .few); deep = omega (arith, o .long) }
 
 pub blank : (n : ℕ) → IsBlank (replicate n 0)
 blank zero i = refl

@@ -13,19 +13,18 @@ use Rattle.cells.specs.declared.Cell.{Cell}
 use Rattle.cells.specs.Needs.{IsCell, Needs}
 use Rattle.cells.proofs.Needing.{needs-as}
 use Rattle.order.specs.Paths.{Reaches, one, more, OnCycle, placed, Ordered}
-use Rattle.order.specs.Search.{WorkRoom, mark, Seen, IsOpen, IsDone, HasPlace, zeros, IsBlank, Searching, Went, Through}
+use Rattle.order.specs.Search.{WorkRoom, mark, Seen, IsOpen, IsDone, HasPlace, waiting, Waits, zeros, IsBlank, Searching, Went, Through}
 use Rattle.order.proofs.Columns.{same, mark-same, mark-other, still-seen, seen-low, placed-same, placed-other, still-stands, zeros-new, zeros-again}
 use Rattle.order.proofs.Columns.{zeros-all, zeros-none, still-lent}
 
 -- Nothing is marked.
-pub begins : {cells : List Cell} {marks stack order : List ℕ} → WorkRoom cells marks stack → length cells ≤ length order → IsBlank marks
-    → Searching cells marks stack order 0 0
-begins {cells} {marks} l long z =
+pub begins : {cells : List Cell} {marks order : List ℕ} → WorkRoom cells marks order → IsBlank marks → Searching cells marks order 0 0
+begins {cells} {marks} l z =
     record {
       stacked = λ x e. absurd (omega (arith, z (ofCell x)));
-      opened = λ j h. absurd (omega arith);
-      apart = λ i j h h′. absurd (omega arith);
-      way = λ j h. absurd (omega arith);
+      opened = λ k h h′. absurd (omega arith);
+      apart = λ i k h h′ h″. absurd (omega arith);
+      way = λ k h h′. absurd (omega arith);
       listed = λ x h. absurd (omega (arith, z (ofCell x)));
       done = λ j h. absurd (omega arith);
       once = λ i j h h′. absurd (omega arith);
@@ -33,11 +32,10 @@ begins {cells} {marks} l long z =
       within = λ x h. absurd (omega (arith, z (ofCell x)));
       room = omega (arith, zeros-all (length cells) marks (l .wide) z);
       lent = l;
-      long = long;
     }
 
--- A new cell y comes on top of a cell that needs it, or on the empty stack.
-module _ {cells : List Cell} {marks stack order : List ℕ} {top count : ℕ} (s : Searching cells marks stack order top count) (y : CellNo)
+-- A new cell y comes on top of a cell that needs it, or on the empty stack: at place p, the next one down from the column's end.
+module _ {cells : List Cell} {marks order : List ℕ} {top count : ℕ} (s : Searching cells marks order top count) (y : CellNo)
     (is : IsCell cells y) (new : mark marks y ≡ 0) where
   in-marks : ofCell y < length marks
   in-marks = omega (arith, s .lent .wide)
@@ -45,85 +43,109 @@ module _ {cells : List Cell} {marks stack order : List ℕ} {top count : ℕ} (s
   one-less : suc (zeros (length cells) (set marks (ofCell y) 1)) ≡ zeros (length cells) marks
   one-less = zeros-new (length cells) marks (ofCell y) 0 is in-marks new
 
-  pub in-stack : top < length stack
-  in-stack = omega (arith, one-less, s .room, s .lent .deep)
+  -- the place is free: behind the placed cells
+  pub place-free : count + top < length order
+  place-free = omega (arith, one-less, s .room, s .lent .deep)
 
   -- the other marks stay
   kept : (x : CellNo) → Seen marks x → mark (set marks (ofCell y) 1) x ≡ mark marks x
   kept x h = mark-other marks y x 1 (λ e. omega (arith, ap (mark marks) e))
 
-  opens : ((j : ℕ) → j + 1 ≡ top → Needs cells (placed stack j) y)
-      → Searching cells (set marks (ofCell y) 1) (set stack top (ofCell y)) order (top + 1) count
-  opens needed =
+  opens : (p : ℕ) → p + (top + 1) ≡ length order → ((k : ℕ) → 0 < k → k ≡ top → Needs cells (waiting order k) y)
+      → Searching cells (set marks (ofCell y) 1) (set order p (ofCell y)) (top + 1) count
+  opens p next needed =
       record {
         stacked = stacked;
         opened = opened;
         apart = apart;
         way = way;
         listed = listed;
-        done = λ j h. rw (kept (placed order j) (omega (arith, s .done j h))) (s .done j h);
-        once = s .once;
-        after = s .after;
+        done = done;
+        once = λ i j h h′ e. s .once i j h h′ (sym (before i (omega arith)) ∙ e ∙ before j h′);
+        after = λ j z h n. still-stands p j y (omega (arith, place-free)) (omega arith) (s .after j z h (needs-as (sym (before j h)) refl n));
         within = within;
         room = omega (arith, s .room, one-less);
-        lent = still-lent (s .lent) (length-set marks (ofCell y) 1) (length-set stack top (ofCell y));
-        long = s .long;
+        lent = still-lent (s .lent) (length-set marks (ofCell y) 1) long;
       }
     where
       marks′ : List ℕ
       marks′ = set marks (ofCell y) 1
 
-      stack′ : List ℕ
-      stack′ = set stack top (ofCell y)
+      order′ : List ℕ
+      order′ = set order p (ofCell y)
 
-      on-top : (j : ℕ) → j ≡ top → placed stack′ j ≡ y
-      on-top j e = ap (placed stack′) e ∙ placed-same stack top y in-stack
+      long : length order′ ≡ length order
+      long = length-set order p (ofCell y)
 
-      below : (j : ℕ) → j < top → placed stack′ j ≡ placed stack j
-      below j h = placed-other stack j top y (λ e. omega arith)
+      -- what is placed stays
+      before : (j : ℕ) → j < count → placed order′ j ≡ placed order j
+      before j h = placed-other order j p y (λ e. omega (arith, place-free))
 
-      stacked : (x : CellNo) → IsOpen marks′ x → HasPlace stack′ (top + 1) x
+      on-top : (k : ℕ) → k ≡ top + 1 → waiting order′ k ≡ y
+      on-top k e =
+          let here : length order′ - k ≡ p = omega (arith, long) in
+          ap (placed order′) here ∙ placed-same order p y (omega arith)
+
+      -- what waits below it stays
+      below : (k : ℕ) → 0 < k → k ≤ top → waiting order′ k ≡ waiting order k
+      below k h h′ =
+          let here : length order′ - k ≡ length order - k = omega (arith, long) in
+          ap (placed order′) here ∙ placed-other order (length order - k) p y (λ e. omega (arith, place-free))
+
+      stacked : (x : CellNo) → IsOpen marks′ x → Waits order′ (top + 1) x
       stacked x h = go (same x y)
         where
-          go : Dec (x ≡ y) → HasPlace stack′ (top + 1) x
-          go (yes e) = record { place = top; low = omega arith; is = on-top top refl ∙ sym e }
-          go (no n) = still-stands top (top + 1) y (omega arith) (omega arith) (s .stacked x (sym (mark-other marks y x 1 n) ∙ h))
-
-      opened : (j : ℕ) → j < top + 1 → IsOpen marks′ (placed stack′ j)
-      opened j h = go (ℕ-discrete j top)
-        where
-          go : Dec (j ≡ top) → IsOpen marks′ (placed stack′ j)
-          go (yes e) = ap (mark marks′) (on-top j e) ∙ mark-same marks y 1 in-marks
+          go : Dec (x ≡ y) → Waits order′ (top + 1) x
+          go (yes e) = record { depth = top + 1; some = omega arith; low = omega arith; is = on-top (top + 1) refl ∙ sym e }
           go (no n) =
-              let j-low : j < top = omega arith in
-              ap (mark marks′) (below j j-low) ∙ kept (placed stack j) (omega (arith, s .opened j j-low)) ∙ s .opened j j-low
+              let w = s .stacked x (sym (mark-other marks y x 1 n) ∙ h) in
+              record { depth = w .depth; some = w .some; low = omega (arith, w .low); is = below (w .depth) (w .some) (w .low) ∙ w .is }
 
-      apart : (i j : ℕ) → i < j → j < top + 1 → placed stack′ i ≡ placed stack′ j → ⊥
-      apart i j h h′ e = go (ℕ-discrete j top)
+      opened : (k : ℕ) → 0 < k → k ≤ top + 1 → IsOpen marks′ (waiting order′ k)
+      opened k h h′ = go (ℕ-discrete k (top + 1))
         where
-          i-low : i < top
-          i-low = omega arith
+          go : Dec (k ≡ top + 1) → IsOpen marks′ (waiting order′ k)
+          go (yes e) = ap (mark marks′) (on-top k e) ∙ mark-same marks y 1 in-marks
+          go (no n) =
+              let low : k ≤ top = omega arith in
+              let was = s .opened k h low in
+              ap (mark marks′) (below k h low) ∙ kept (waiting order k) (omega (arith, was)) ∙ was
 
-          go : Dec (j ≡ top) → ⊥
-          go (yes q) = omega (arith, s .opened i i-low, ap (mark marks) (sym (below i i-low) ∙ e ∙ on-top j q))
-          go (no n) = let j-low : j < top = omega arith in s .apart i j h j-low (sym (below i i-low) ∙ e ∙ below j j-low)
-
-      way : (j : ℕ) → j + 1 < top + 1 → Needs cells (placed stack′ j) (placed stack′ (j + 1))
-      way j h = go (ℕ-discrete (j + 1) top)
+      apart : (i k : ℕ) → 0 < i → i < k → k ≤ top + 1 → waiting order′ i ≡ waiting order′ k → ⊥
+      apart i k z h h′ e = go (ℕ-discrete k (top + 1))
         where
-          j-low : j < top
-          j-low = omega arith
+          low : i ≤ top
+          low = omega arith
 
-          go : Dec (j + 1 ≡ top) → Needs cells (placed stack′ j) (placed stack′ (j + 1))
-          go (yes e) = needs-as (below j j-low) (on-top (j + 1) e) (needed j e)
-          go (no n) = needs-as (below j j-low) (below (j + 1) (omega arith)) (s .way j (omega arith))
+          go : Dec (k ≡ top + 1) → ⊥
+          go (yes q) = omega (arith, s .opened i z low, ap (mark marks) (sym (below i z low) ∙ e ∙ on-top k q))
+          go (no n) =
+              let k-low : k ≤ top = omega arith in
+              s .apart i k z h k-low (sym (below i z low) ∙ e ∙ below k (omega arith) k-low)
 
-      listed : (x : CellNo) → IsDone marks′ x → HasPlace order count x
+      way : (k : ℕ) → 0 < k → k < top + 1 → Needs cells (waiting order′ k) (waiting order′ (k + 1))
+      way k z h = go (ℕ-discrete k top)
+        where
+          low : k ≤ top
+          low = omega arith
+
+          go : Dec (k ≡ top) → Needs cells (waiting order′ k) (waiting order′ (k + 1))
+          go (yes e) = needs-as (below k z low) (on-top (k + 1) (omega arith)) (needed k z e)
+          go (no n) = needs-as (below k z low) (below (k + 1) (omega arith) (omega arith)) (s .way k z (omega arith))
+
+      listed : (x : CellNo) → IsDone marks′ x → HasPlace order′ count x
       listed x h = go (same x y)
         where
-          go : Dec (x ≡ y) → HasPlace order count x
+          go : Dec (x ≡ y) → HasPlace order′ count x
           go (yes e) = absurd (omega (arith, ap (mark marks′) e, mark-same marks y 1 in-marks))
-          go (no n) = s .listed x (rw (mark-other marks y x 1 n) at h)
+          go (no n) =
+              still-stands p count y (omega (arith, place-free)) (omega arith) (s .listed x (rw (mark-other marks y x 1 n) at h))
+
+      done : (j : ℕ) → j < count → IsDone marks′ (placed order′ j)
+      done j h =
+          let was = s .done j h in
+          let same-mark = ap (mark marks′) (before j h) ∙ kept (placed order j) (omega (arith, was)) in
+          omega (arith, same-mark, was)
 
       within : (x : CellNo) → Seen marks′ x → IsCell cells x
       within x h = go (same x y)
@@ -132,34 +154,35 @@ module _ {cells : List Cell} {marks stack order : List ℕ} {top count : ℕ} (s
           go (yes e) = subst⁻¹ (IsCell cells) e is
           go (no n) = s .within x (rw (mark-other marks y x 1 n) at h)
 
--- The cell on top is placed, where all that it needs is done.
-module _ {cells : List Cell} {marks stack order : List ℕ} {top count : ℕ} (s : Searching cells marks stack order top count) (x : CellNo)
-    (some : 0 < top) (last : placed stack (top - 1) ≡ x) where
+-- The cell on top is placed, where all that it needs is done: at most over its own place on the stack.
+module _ {cells : List Cell} {marks order : List ℕ} {top count : ℕ} (s : Searching cells marks order top count) (x : CellNo)
+    (some : 0 < top) (last : waiting order top ≡ x) where
   open-top : IsOpen marks x
-  open-top = ap (mark marks) (sym last) ∙ s .opened (top - 1) (omega arith)
+  open-top = ap (mark marks) (sym last) ∙ s .opened top some (omega arith)
 
   pub is-cell : IsCell cells x
   is-cell = s .within x (omega (arith, open-top))
 
-  in-order : count < length order
-  in-order = omega (arith, s .room, s .long)
+  -- the placed cells end before the stack does
+  pub in-order : count + top ≤ length order
+  in-order = omega (arith, s .room, s .lent .deep)
 
   pub places : ((y : CellNo) → Needs cells x y → IsDone marks y)
-      → Searching cells (set marks (ofCell x) 2) stack (set order count (ofCell x)) (top - 1) (count + 1)
+      → Searching cells (set marks (ofCell x) 2) (set order count (ofCell x)) (top - 1) (count + 1)
   places ready =
       record {
         stacked = stacked;
         opened = opened;
-        apart = λ i j h h′. s .apart i j h (omega arith);
-        way = λ j h. s .way j (omega arith);
+        apart = λ i k z h h′ e.
+            s .apart i k z h (omega arith) (sym (below i z (omega arith)) ∙ e ∙ below k (omega arith) h′);
+        way = λ k z h. needs-as (below k z (omega arith)) (below (k + 1) (omega arith) (omega arith)) (s .way k z (omega arith));
         listed = listed;
         done = done;
         once = once;
         after = after;
         within = within;
         room = omega (arith, s .room, zeros-again (length cells) marks (ofCell x) 1 (omega (arith, open-top)));
-        lent = still-lent (s .lent) (length-set marks (ofCell x) 2) refl;
-        long = rw (length-set order count (ofCell x)) (s .long);
+        lent = still-lent (s .lent) (length-set marks (ofCell x) 2) long;
       }
     where
       marks′ : List ℕ
@@ -168,28 +191,40 @@ module _ {cells : List Cell} {marks stack order : List ℕ} {top count : ℕ} (s
       order′ : List ℕ
       order′ = set order count (ofCell x)
 
+      long : length order′ ≡ length order
+      long = length-set order count (ofCell x)
+
       now-done : mark marks′ x ≡ 2
       now-done = mark-same marks x 2 (seen-low marks x (omega (arith, open-top)))
 
       at-last : (j : ℕ) → j ≡ count → placed order′ j ≡ x
-      at-last j e = ap (placed order′) e ∙ placed-same order count x in-order
+      at-last j e = ap (placed order′) e ∙ placed-same order count x (omega (arith, in-order))
 
       before : (j : ℕ) → j < count → placed order′ j ≡ placed order j
       before j h = placed-other order j count x (λ e. omega arith)
 
-      stacked : (y : CellNo) → IsOpen marks′ y → HasPlace stack (top - 1) y
+      -- what waits below it stays
+      below : (k : ℕ) → 0 < k → k ≤ top - 1 → waiting order′ k ≡ waiting order k
+      below k h h′ =
+          let here : length order′ - k ≡ length order - k = omega (arith, long) in
+          ap (placed order′) here ∙ placed-other order (length order - k) count x (λ e. omega (arith, in-order))
+
+      stacked : (y : CellNo) → IsOpen marks′ y → Waits order′ (top - 1) y
       stacked y h = go (same y x)
         where
-          go : Dec (y ≡ x) → HasPlace stack (top - 1) y
+          go : Dec (y ≡ x) → Waits order′ (top - 1) y
           go (yes e) = absurd (omega (arith, ap (mark marks′) e, now-done))
           go (no n) =
               let w = s .stacked y (sym (mark-other marks x y 2 n) ∙ h) in
-              let other : w .place ≡ top - 1 → ⊥ = λ e. n (sym (w .is) ∙ ap (placed stack) e ∙ last) in
-              record { place = w .place; low = omega (arith, w .low); is = w .is }
+              let other : w .depth ≡ top → ⊥ = λ e. n (sym (w .is) ∙ ap (waiting order) e ∙ last) in
+              let low : w .depth ≤ top - 1 = omega (arith, w .low) in
+              record { depth = w .depth; some = w .some; low = low; is = below (w .depth) (w .some) low ∙ w .is }
 
-      opened : (j : ℕ) → j < top - 1 → IsOpen marks′ (placed stack j)
-      opened j h =
-          mark-other marks x (placed stack j) 2 (λ e. s .apart j (top - 1) h (omega arith) (e ∙ sym last)) ∙ s .opened j (omega arith)
+      opened : (k : ℕ) → 0 < k → k ≤ top - 1 → IsOpen marks′ (waiting order′ k)
+      opened k z h =
+          ap (mark marks′) (below k z h)
+          ∙ mark-other marks x (waiting order k) 2 (λ e. s .apart k top z (omega arith) (omega arith) (e ∙ sym last))
+          ∙ s .opened k z (omega arith)
 
       listed : (y : CellNo) → IsDone marks′ y → HasPlace order′ (count + 1) y
       listed y h = go (same y x)
@@ -244,60 +279,54 @@ module _ {cells : List Cell} {marks stack order : List ℕ} {top count : ℕ} (s
   pub comes-back : (y : CellNo) → Needs cells x y → IsOpen marks y → OnCycle cells y
   comes-back y needs is-open =
       let w = s .stacked y is-open in
-      let first : ℕ = w .place in
-      let goal : Reaches cells (placed stack first) y =
-      up (top - 1 - first) first (omega (arith, w .low)) in
+      let goal : Reaches cells (waiting order (w .depth)) y = up (top - w .depth) (w .depth) (w .some) (omega (arith, w .low)) in
       subst (λ (z : CellNo). Reaches cells z y) (w .is) goal
     where
-      up : (k j : ℕ) → j + k ≡ top - 1 → Reaches cells (placed stack j) y
-      up zero j e = let here : j ≡ top - 1 = omega arith in one (needs-as (ap (placed stack) here ∙ last) refl needs)
-      up (suc k) j e = more (s .way j (omega arith)) (up k (j + 1) (omega arith))
+      up : (n k : ℕ) → 0 < k → k + n ≡ top → Reaches cells (waiting order k) y
+      up zero k z e = let here : k ≡ top = omega arith in one (needs-as (ap (waiting order) here ∙ last) refl needs)
+      up (suc n) k z e = more (s .way k z (omega arith)) (up n (k + 1) (omega arith) (omega arith))
 
 -- A step deeper, and a step that places the cell on top.
-module _ {cells : List Cell} {marks stack order : List ℕ} {top count : ℕ} (s : Searching cells marks stack order top count) (some : 0 < top) where
-  pub goes-deeper : (y : CellNo) → IsCell cells y → mark marks y ≡ 0 → Needs cells (placed stack (top - 1)) y
-      → Went cells marks (set marks (ofCell y) 1) (set stack top (ofCell y)) order top (top + 1) count
-  goes-deeper y is new needs =
+module _ {cells : List Cell} {marks order : List ℕ} {top count : ℕ} (s : Searching cells marks order top count) (some : 0 < top) where
+  pub goes-deeper : (p : ℕ) (y : CellNo) → IsCell cells y → mark marks y ≡ 0 → p + (top + 1) ≡ length order → Needs cells (waiting order top) y
+      → Went cells marks (set marks (ofCell y) 1) (set order p (ofCell y)) top (top + 1) count
+  goes-deeper p y is new next needs =
       record {
-        searching = opens s y is new needed;
+        searching = opens s y is new p next (λ k z e. needs-as (ap (waiting order) e) refl needs);
         less = omega (arith, one-less s y is new);
         still = λ x h. still-seen marks y x 0 (in-marks s y is new) h;
       }
-    where
-      needed : (j : ℕ) → j + 1 ≡ top → Needs cells (placed stack j) y
-      needed j e = let here : j ≡ top - 1 = omega arith in needs-as (ap (placed stack) here) refl needs
 
-  pub top-in-marks : mark stack (cellNo (top - 1)) < length marks
-  top-in-marks = omega (arith, is-cell s (placed stack (top - 1)) some refl, s .lent .wide)
+  pub top-in-marks : ofCell (waiting order top) < length marks
+  top-in-marks = omega (arith, is-cell s (waiting order top) some refl, s .lent .wide)
 
-  pub places-top : ((y : CellNo) → Needs cells (placed stack (top - 1)) y → IsDone marks y)
-      → Went cells marks (set marks (ofCell (placed stack (top - 1))) 2) stack (set order count (ofCell (placed stack (top - 1)))) top (top - 1) (count + 1)
+  pub places-top : ((y : CellNo) → Needs cells (waiting order top) y → IsDone marks y)
+      → Went cells marks (set marks (ofCell (waiting order top)) 2) (set order count (ofCell (waiting order top))) top (top - 1) (count + 1)
   places-top ready =
-      let x : CellNo = placed stack (top - 1) in
+      let x : CellNo = waiting order top in
       record {
         searching = places s x some refl ready;
-        less = omega (arith, zeros-again (length cells) marks (ofCell x) 1 (omega (arith, s .opened (top - 1) (omega arith))));
+        less = omega (arith, zeros-again (length cells) marks (ofCell x) 1 (omega (arith, s .opened top some (omega arith))));
         still = λ y h. still-seen marks x y 1 top-in-marks h;
       }
 
 -- A search is under way that began with the marks marks₀.
-pub record Under (cells : List Cell) (marks₀ marks stack order : List ℕ) (top count : ℕ) : Type 0 where
-  pub searching : Searching cells marks stack order top count
+pub record Under (cells : List Cell) (marks₀ marks order : List ℕ) (top count : ℕ) : Type 0 where
+  pub searching : Searching cells marks order top count
   pub still : (y : CellNo) → Seen marks₀ y → Seen marks y
 
 -- it began at x, which was new and was opened
-pub under-begins : {cells : List Cell} {marks stack order : List ℕ} {count : ℕ} (x : CellNo) → Searching cells marks stack order 0 count
-    → IsCell cells x
-    → mark marks x ≡ 0 → Under cells (set marks (ofCell x) 1) (set marks (ofCell x) 1) (set stack 0 (ofCell x)) order 1 count
-under-begins x s is new = record { searching = opens s x is new (λ j e. absurd (omega arith)); still = λ y h. h }
+pub under-begins : {cells : List Cell} {marks order : List ℕ} {count : ℕ} (p : ℕ) (x : CellNo) → Searching cells marks order 0 count
+    → IsCell cells x → mark marks x ≡ 0 → p + 1 ≡ length order
+    → Under cells (set marks (ofCell x) 1) (set marks (ofCell x) 1) (set order p (ofCell x)) 1 count
+under-begins p x s is new next = record { searching = opens s x is new p next (λ k z e. absurd (omega arith)); still = λ y h. h }
 
-pub under-goes-on : {cells : List Cell} {marks₀ marks marks′ stack stack′ order order′ : List ℕ} {top top′ count count′ : ℕ}
-    → Under cells marks₀ marks stack order top count → Went cells marks marks′ stack′ order′ top top′ count′
-    → Under cells marks₀ marks′ stack′ order′ top′ count′
+pub under-goes-on : {cells : List Cell} {marks₀ marks marks′ order order′ : List ℕ} {top top′ count count′ : ℕ}
+    → Under cells marks₀ marks order top count → Went cells marks marks′ order′ top top′ count′ → Under cells marks₀ marks′ order′ top′ count′
 under-goes-on u w = record { searching = w .searching; still = λ y h. w .still y (u .still y h) }
 
-pub under-ends : {cells : List Cell} {marks marks′ stack order : List ℕ} {count : ℕ} (x : CellNo) → ofCell x < length marks
-    → Under cells (set marks (ofCell x) 1) marks′ stack order 0 count → Through cells marks marks′ stack order x count
+pub under-ends : {cells : List Cell} {marks marks′ order : List ℕ} {count : ℕ} (x : CellNo) → ofCell x < length marks
+    → Under cells (set marks (ofCell x) 1) marks′ order 0 count → Through cells marks marks′ order x count
 under-ends {marks = marks} x h u =
     record {
       searching = u .searching;
@@ -306,19 +335,19 @@ under-ends {marks = marks} x h u =
     }
 
 -- The cells below i have been searched from.
-pub record Upto (cells : List Cell) (marks stack order : List ℕ) (count i : ℕ) : Type 0 where
-  pub searching : Searching cells marks stack order 0 count
+pub record Upto (cells : List Cell) (marks order : List ℕ) (count i : ℕ) : Type 0 where
+  pub searching : Searching cells marks order 0 count
   pub seen : (k : ℕ) → k < i → Seen marks (cellNo k)
 
-pub upto-more : {cells : List Cell} {marks marks′ stack stack′ order order′ : List ℕ} {count count′ i : ℕ} → Upto cells marks stack order count i
-    → Through cells marks marks′ stack′ order′ (cellNo i) count′ → Upto cells marks′ stack′ order′ count′ (i + 1)
+pub upto-more : {cells : List Cell} {marks marks′ order order′ : List ℕ} {count count′ i : ℕ} → Upto cells marks order count i
+    → Through cells marks marks′ order′ (cellNo i) count′ → Upto cells marks′ order′ count′ (i + 1)
 upto-more {marks′ = marks′} {i = i} u t =
     record { searching = t .searching; seen = below-more (λ (k : ℕ). Seen marks′ (cellNo k)) i (λ k h. t .still (cellNo k) (u .seen k h)) (t .seen) }
 
 -- Every cell has been searched from.
-pub all-placed : {cells : List Cell} {marks stack order : List ℕ} {count : ℕ} → Searching cells marks stack order 0 count
+pub all-placed : {cells : List Cell} {marks order : List ℕ} {count : ℕ} → Searching cells marks order 0 count
     → ((i : ℕ) → i < length cells → Seen marks (cellNo i)) → Ordered cells order
-all-placed {cells} {marks} {stack} {order} {count} s seen =
+all-placed {cells} {marks} {order} {count} s seen =
     record {
       cell = λ j h. s .within (placed order j) (omega (arith, s .done j (omega (arith, whole))));
       once = λ i j h h′. s .once i j h (omega (arith, whole));
@@ -334,5 +363,5 @@ all-placed {cells} {marks} {stack} {order} {count} s seen =
     is-done x h = go (ℕ-discrete (mark marks x) 1)
       where
         go : Dec (IsOpen marks x) → IsDone marks x
-        go (yes e) = absurd (omega (arith, s .stacked x e .low))
+        go (yes e) = let w = s .stacked x e in absurd (omega (arith, w .some, w .low))
         go (no n) = omega (arith, seen (ofCell x) h)

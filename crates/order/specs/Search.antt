@@ -4,7 +4,7 @@ use mathlib.Core.Path.{_≡_}
 use mathlib.Core.Bool.{Bool, true, false}
 use mathlib.Core.List.{List, [], _∷_}
 use mathlib.Core.Logic.{_⊎_}
-use Prim.Native.Nat.{ℕ, suc, zero, _+_, _*_, _<_, _≤_}
+use Prim.Native.Nat.{ℕ, suc, zero, _+_, _-_, _*_, _<_, _≤_}
 use lib.ListN.{length, getD, set}
 use Rattle.number.specs.Counts.{cellNo, ofCell}
 use Rattle.number.specs.declared.CellNo.{CellNo}
@@ -56,21 +56,31 @@ zeros (suc n) [] = 0
 zeros (suc n) (zero ∷ marks) = suc (zeros n marks)
 zeros (suc n) (suc m ∷ marks) = zeros n marks
 
+-- the cell at depth k of the stack, from 1 on: in the search for an order the stack grows down from the end of the order's own column
+abbrev pub waiting : List ℕ → ℕ → CellNo
+waiting order k = placed order (length order - k)
+
+-- x waits on a stack of top cells
+pub record Waits (order : List ℕ) (top : ℕ) (x : CellNo) : Type 0 where
+  pub depth : ℕ
+  pub some : 0 < depth
+  pub low : depth ≤ top
+  pub is : waiting order depth ≡ x
+
 -- the search for an order: the open cells are those on the stack, each needed by the one below it; the done cells are those placed, each after what
--- it needs
-pub record Searching (cells : List Cell) (marks stack order : List ℕ) (top count : ℕ) : Type 0 where
-  pub stacked : (x : CellNo) → IsOpen marks x → HasPlace stack top x
-  pub opened : (j : ℕ) → j < top → IsOpen marks (placed stack j)
-  pub apart : (i j : ℕ) → i < j → j < top → placed stack i ≡ placed stack j → ⊥
-  pub way : (j : ℕ) → j + 1 < top → Needs cells (placed stack j) (placed stack (j + 1))
+-- it needs; "placed and waiting cells are never more than all cells"
+pub record Searching (cells : List Cell) (marks order : List ℕ) (top count : ℕ) : Type 0 where
+  pub stacked : (x : CellNo) → IsOpen marks x → Waits order top x
+  pub opened : (k : ℕ) → 0 < k → k ≤ top → IsOpen marks (waiting order k)
+  pub apart : (i k : ℕ) → 0 < i → i < k → k ≤ top → waiting order i ≡ waiting order k → ⊥
+  pub way : (k : ℕ) → 0 < k → k < top → Needs cells (waiting order k) (waiting order (k + 1))
   pub listed : (x : CellNo) → IsDone marks x → HasPlace order count x
   pub done : (j : ℕ) → j < count → IsDone marks (placed order j)
   pub once : (i j : ℕ) → i < j → j < count → placed order i ≡ placed order j → ⊥
   pub after : (j : ℕ) (y : CellNo) → j < count → Needs cells (placed order j) y → HasPlace order j y
   pub within : (x : CellNo) → Seen marks x → IsCell cells x
   pub room : count + (top + zeros (length cells) marks) ≡ length cells
-  pub lent : WorkRoom cells marks stack
-  pub long : length cells ≤ length order
+  pub lent : WorkRoom cells marks order
 
 -- what is next for an open cell x: an operand that is new, one that is open, or x can be placed
 abbrev pub IsNext : List Cell → List ℕ → CellNo → Next → Type 0
@@ -87,25 +97,25 @@ abbrev pub left : List Cell → List ℕ → ℕ → ℕ
 left cells marks top = 2 * zeros (length cells) marks + top
 
 -- the search has gone one step on
-pub record Went (cells : List Cell) (marks marks′ stack order : List ℕ) (top top′ count : ℕ) : Type 0 where
-  pub searching : Searching cells marks′ stack order top′ count
+pub record Went (cells : List Cell) (marks marks′ order : List ℕ) (top top′ count : ℕ) : Type 0 where
+  pub searching : Searching cells marks′ order top′ count
   pub less : left cells marks′ top′ < left cells marks top
   pub still : (x : CellNo) → Seen marks x → Seen marks′ x
 
 -- one step, from the marks before to the columns after
-abbrev pub Stepped : List Cell → List ℕ → ℕ → List ℕ → List ℕ → List ℕ → Step → Type 0
-Stepped cells marks top marks′ stack order (On top′ count) = Went cells marks marks′ stack order top top′ count
-Stepped cells marks top marks′ stack order Back = HasCycle cells
+abbrev pub Stepped : List Cell → List ℕ → ℕ → List ℕ → List ℕ → Step → Type 0
+Stepped cells marks top marks′ order (On top′ count) = Went cells marks marks′ order top top′ count
+Stepped cells marks top marks′ order Back = HasCycle cells
 
 -- a cell and all that it needs is placed
-pub record Through (cells : List Cell) (marks marks′ stack order : List ℕ) (x : CellNo) (count : ℕ) : Type 0 where
-  pub searching : Searching cells marks′ stack order 0 count
+pub record Through (cells : List Cell) (marks marks′ order : List ℕ) (x : CellNo) (count : ℕ) : Type 0 where
+  pub searching : Searching cells marks′ order 0 count
   pub seen : Seen marks′ x
   pub still : (y : CellNo) → Seen marks y → Seen marks′ y
 
-abbrev pub Visited : List Cell → List ℕ → List ℕ → List ℕ → List ℕ → CellNo → Visit → Type 0
-Visited cells marks marks′ stack order x (Placed count) = Through cells marks marks′ stack order x count
-Visited cells marks marks′ stack order x Cyclic = HasCycle cells
+abbrev pub Visited : List Cell → List ℕ → List ℕ → List ℕ → CellNo → Visit → Type 0
+Visited cells marks marks′ order x (Placed count) = Through cells marks marks′ order x count
+Visited cells marks marks′ order x Cyclic = HasCycle cells
 
 -- the search has been through all cells
 abbrev pub AllVisited : List Cell → List ℕ → Visit → Type 0

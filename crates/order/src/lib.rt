@@ -70,59 +70,46 @@ fn look(cells: &[u64], marks: &[u8], x: CellNo) -> Next
     Next::Clear
 }
 
-// The cell on top of the stack: an operand that is new comes on top of it, or it is placed. A cell is on top three times at most.
-fn advance(
-    cells: &[u64],
-    marks: &mut [u8],
-    stack: &mut [u16],
-    order: &mut [u16],
-    top: usize,
-    count: usize,
-) -> Step
-    requires { ⌜ Closed (cellsOf (now cells)) × Searching (cellsOf (now cells)) (now marks) (now stack) (now order) top count × (0 < top) ⌝ }
-    ensures { λ r. ⌜ Stepped (cellsOf (now (cells .entry))) (now (marks .entry)) top (now (marks .exit)) (now (stack .exit)) (now (order .exit)) r ⌝ }
+// The cell on top of the stack: an operand that is new comes on top of it, or it is placed. A cell is on top three times at most. The stack grows down from the
+// end of `order`, the placed cells up from its beginning: together they are never more than all cells.
+fn advance(cells: &[u64], marks: &mut [u8], order: &mut [u16], top: usize, count: usize) -> Step
+    requires { ⌜ Closed (cellsOf (now cells)) × Searching (cellsOf (now cells)) (now marks) (now order) top count × (0 < top) ⌝ }
+    ensures { λ r. ⌜ Stepped (cellsOf (now (cells .entry))) (now (marks .entry)) top (now (marks .exit)) (now (order .exit)) r ⌝ }
 {
-    let at = top - 1;
-    let x = stack[at];
+    let at = order.len() - top;
+    let x = order[at];
     match look(cells, marks, CellNo::new(x)) {
         Next::New(y) => {
             let n = y.number();
             marks[n as usize] = 1;
-            stack[top] = n;
+            order[at - 1] = n;
             Step::On(top + 1, count)
         }
         Next::Open => Step::Back,
         Next::Clear => {
             marks[x as usize] = 2;
             order[count] = x;
-            Step::On(at, count + 1)
+            Step::On(top - 1, count + 1)
         }
     }
 }
 
 // The search from the cell x, where it is new.
-fn search(
-    cells: &[u64],
-    marks: &mut [u8],
-    stack: &mut [u16],
-    order: &mut [u16],
-    x: CellNo,
-    count: usize,
-) -> Visit
-    requires { ⌜ Closed (cellsOf (now cells)) × Searching (cellsOf (now cells)) (now marks) (now stack) (now order) 0 count
-        × IsCell (cellsOf (now cells)) x ⌝ }
-    ensures { λ r. ⌜ Visited (cellsOf (now (cells .entry))) (now (marks .entry)) (now (marks .exit)) (now (stack .exit)) (now (order .exit)) x r ⌝ }
+fn search(cells: &[u64], marks: &mut [u8], order: &mut [u16], x: CellNo, count: usize) -> Visit
+    requires { ⌜ Closed (cellsOf (now cells)) × Searching (cellsOf (now cells)) (now marks) (now order) 0 count × IsCell (cellsOf (now cells)) x ⌝ }
+    ensures { λ r. ⌜ Visited (cellsOf (now (cells .entry))) (now (marks .entry)) (now (marks .exit)) (now (order .exit)) x r ⌝ }
 {
     let n = x.number();
     if marks[n as usize] != 0 {
         return Visit::Placed(count);
     }
     marks[n as usize] = 1;
-    stack[0] = n;
+    let end = order.len();
+    order[end - 1] = n;
     let mut top: usize = 1;
     let mut done = count;
     while 0 < top {
-        let Step::On(t, d) = advance(cells, marks, stack, order, top, done) else {
+        let Step::On(t, d) = advance(cells, marks, order, top, done) else {
             return Visit::Cyclic;
         };
         top = t;
@@ -132,16 +119,14 @@ fn search(
 }
 
 // The search from each cell in turn.
-fn place_all(cells: &[u64], marks: &mut [u8], stack: &mut [u16], order: &mut [u16]) -> Visit
-    requires { ⌜ Closed (cellsOf (now cells)) × WorkRoom (cellsOf (now cells)) (now marks) (now stack)
-        × (length (cellsOf (now cells)) ≤ length (now order)) × IsBlank (now marks) ⌝ }
+fn place_all(cells: &[u64], marks: &mut [u8], order: &mut [u16]) -> Visit
+    requires { ⌜ Closed (cellsOf (now cells)) × WorkRoom (cellsOf (now cells)) (now marks) (now order) × IsBlank (now marks) ⌝ }
     ensures { λ r. ⌜ AllVisited (cellsOf (now (cells .entry))) (now (order .exit)) r ⌝ }
 {
     let mut count: usize = 0;
     let mut i: usize = 0;
     while i < cells.len() {
-        let Visit::Placed(n) = search(cells, marks, stack, order, CellNo::new(i as u16), count)
-        else {
+        let Visit::Placed(n) = search(cells, marks, order, CellNo::new(i as u16), count) else {
             return Visit::Cyclic;
         };
         count = n;
@@ -218,9 +203,8 @@ pub fn order_cells(cells: &[u64], order: &mut [u16]) -> Ordering
     ensures { λ r. ⌜ Answers (cellsOf (now (cells .entry))) (now (order .exit)) r ⌝ }
 {
     let mut marks = [0u8; limits::MAX_CELLS];
-    let mut stack = [0u16; limits::MAX_CELLS];
-    match place_all(cells, &mut marks, &mut stack, order) {
+    match place_all(cells, &mut marks, order) {
         Visit::Placed(_) => Ordering::Found,
-        Visit::Cyclic => Ordering::Cycle(lowest(cells, &mut marks, &mut stack)),
+        Visit::Cyclic => Ordering::Cycle(lowest(cells, &mut marks, order)),
     }
 }
