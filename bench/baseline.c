@@ -858,8 +858,18 @@ static unsigned resume(struct run *r, unsigned n)
     }
 }
 
-/* One reaction: E is made anew until it repeats. */
-static uint64_t react(const struct program *p, uint64_t *state, uint64_t event)
+/* The signals that the sheet asks for. */
+static uint64_t asked(const struct program *p)
+{
+    uint64_t asks = 0;
+    for (unsigned n = 0; n < p->statements; n++)
+        if (p->at[n].kind == PRESENT || p->at[n].kind == WATCHING)
+            asks |= 1ull << p->at[n].operand;
+    return asks;
+}
+
+/* One reaction: E is made anew until no signal changes that the sheet asks for. */
+static uint64_t react(const struct program *p, uint64_t asks, uint64_t *state, uint64_t event)
 {
     struct run r = {.at = p->at, .state = *state};
     uint64_t given = event | 1, renewed = given;
@@ -871,7 +881,7 @@ static uint64_t react(const struct program *p, uint64_t *state, uint64_t event)
         else if (r.state & p->at[0].halts)
             resume(&r, 0);
         renewed = given | r.emits;
-    } while (renewed != r.present);
+    } while ((renewed ^ r.present) & asks);
     *state = r.halts | 1;
     return r.emits;
 }
@@ -982,7 +992,7 @@ krankovel_reaction krankovel_react(const uint8_t *sheet, size_t length, uint64_t
         a = refusal(STATE, 0);
     if (a.number)
         return reaction(a, 0, state);
-    uint64_t emissions = react(&c.p, &state, event);
+    uint64_t emissions = react(&c.p, asked(&c.p), &state, event);
     return reaction(a, emissions, state);
 }
 
@@ -1011,8 +1021,9 @@ krankovel_course krankovel_react_many(const uint8_t *sheet, size_t length, uint6
         a = many_ok(a, c.p.inputs, fits(&c.p, state), events, count, least(emissions_room, states_room));
     if (a.number)
         return course(a, state);
+    uint64_t asks = asked(&c.p);
     for (size_t i = 0; i < count; i++) {
-        emissions[i] = react(&c.p, &state, events[i]);
+        emissions[i] = react(&c.p, asks, &state, events[i]);
         states[i] = state;
     }
     return course(a, state);

@@ -1,6 +1,7 @@
 /* Makes the inputs of the bench, the same at every run.
    Use: generate sheet N SHEET FILE    an accepted sheet of N statements, and its netlist file
         generate netlist N FILE        a netlist file of N cells, 64 of them registers
+        generate registers FILE        a netlist file of 63 inputs and 64 registers, and no gate
    A sheet grows out of loops side by side, each over two waits (`06i01`, a halt guarded by an input): some wait is replaced by a small piece with waits of its own, and
    what the check refuses, or is too large, is taken back. So every part is reached again and again. */
 #include "krankovel.h"
@@ -137,8 +138,22 @@ static int make_netlist(unsigned cells, const char *file)
     return a.number || save(file, bytes, length);
 }
 
+static int make_registers(const char *file)
+{
+    enum { MOST_INPUTS = 63, ALL = 2 + MOST_INPUTS + REGISTERS };
+    static uint8_t bytes[FILE_MOST];
+    static uint64_t words[ALL] = {0, 1};
+    for (uint64_t n = 2; n < ALL; n++)
+        words[n] = n < 2 + MOST_INPUTS ? 2 + 8 * (n - 1) : 6 + 8 * (n - 1);
+    krankovel_answer a = krankovel_write_cells(MOST_INPUTS, 0, words, ALL, bytes, sizeof bytes);
+    size_t length = krankovel_write_cells(MOST_INPUTS, 0, words, ALL, bytes, 0).place;
+    return a.number || save(file, bytes, length);
+}
+
 int main(int argc, char **argv)
 {
+    if (argc == 3 && !strcmp(argv[1], "registers"))
+        return make_registers(argv[2]);
     if (argc == 5 && !strcmp(argv[1], "sheet"))
         return make_sheet((unsigned)atoi(argv[2]), argv[3], argv[4]);
     if (argc == 4 && !strcmp(argv[1], "netlist"))
