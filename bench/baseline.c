@@ -579,6 +579,10 @@ static krankovel_answer compile(const uint8_t *sheet, size_t length, struct comp
 
 /* ---- netlist files and words ---- */
 
+/* In a file a gate is of kind 7, and its truth table says which: bit x + 2 y is what it gives. */
+enum { TABLE = 7 };
+static const uint8_t truth_tables[] = {14, 8, 2};
+
 static size_t file_length(const struct netlist *w)
 {
     size_t length = 2 + number_length(w->cells);
@@ -588,7 +592,7 @@ static size_t file_length(const struct netlist *w)
         if (c.kind >= INPUT)
             length += number_length(c.x);
         if (is_gate(c))
-            length += number_length(c.y);
+            length += 1 + number_length(c.y);
     }
     return length;
 }
@@ -603,19 +607,24 @@ static krankovel_answer write_file(const struct netlist *w, unsigned statements,
     to = write_number(to, w->cells);
     for (unsigned n = 0; n < w->cells; n++) {
         struct cell c = w->at[n];
+        if (is_gate(c)) {
+            *to++ = TABLE;
+            *to++ = truth_tables[c.kind - OR];
+            to = write_number(to, c.x);
+            to = write_number(to, c.y);
+            continue;
+        }
         *to++ = (uint8_t)c.kind;
         if (c.kind >= INPUT)
             to = write_number(to, c.x);
-        if (is_gate(c))
-            to = write_number(to, c.y);
     }
     return acceptance(statements, w->cells);
 }
 
 /* The number of what is wrong with a kind at cell n, or 0; counts the registers. */
-static inline unsigned judge_kind(unsigned inputs, unsigned n, unsigned kind, unsigned *registers)
+static inline unsigned judge_kind(unsigned highest, unsigned inputs, unsigned n, unsigned kind, unsigned *registers)
 {
-    if (kind > REGISTER)
+    if (kind > highest)
         return KIND;
     if (kind == REGISTER && (*registers)++ == REGISTERS)
         return COUNT;
@@ -631,9 +640,18 @@ static int read_cell(struct text *t, struct netlist *w, unsigned n, unsigned *re
     int kind = read_number(t), x = 0, y = 0;
     if (kind < 0)
         return -1;
-    unsigned wrong = judge_kind(w->inputs, n, (unsigned)kind, registers);
+    unsigned wrong = judge_kind(TABLE, w->inputs, n, (unsigned)kind, registers);
     if (wrong)
         return fault(t, wrong, at);
+    if (kind == TABLE) {
+        at = t->at;
+        int truth = read_number(t);
+        if (truth < 0)
+            return -1;
+        kind = truth == truth_tables[0] ? OR : truth == truth_tables[1] ? AND : BUTNOT;
+        if (truth != truth_tables[kind - OR])
+            return fault(t, CELL, at);
+    }
     if (kind >= INPUT) {
         at = t->at;
         if ((x = read_number(t)) < 0)
@@ -694,7 +712,7 @@ static unsigned take_words(uint32_t inputs, uint32_t outputs, const uint64_t *wo
     for (unsigned n = 0; n < w->cells; n++) {
         uint64_t word = words[n];
         struct cell c = {word & 7, word >> 3 & 65535, word >> 19 & 65535};
-        unsigned wrong = judge_kind(inputs, n, c.kind, &registers);
+        unsigned wrong = judge_kind(REGISTER, inputs, n, c.kind, &registers);
         if (wrong)
             return wrong;
         if (word >> 35 || (c.kind < INPUT && c.x) || (!is_gate(c) && c.y))

@@ -17,7 +17,7 @@
      no. name     where                                                                        place
       1  SHORT    the bytes end                                                                offset of the number begun
       2  NUMBER   a number's second byte is 0 or over 127                                      the same
-      3  KIND     a kind over 10, or over 6 in a netlist                                       the same
+      3  KIND     a kind over 10 in a sheet, over 7 in a file, over 6 in a word                the same
       4  COUNT    a limit is passed                                                            offset of the second header number, kind, or missing statement;
                                                                                                of a file's count of cells
       5  SCOPE    no such signal here                                                          the operand's offset
@@ -31,8 +31,9 @@
      13  EVENT    an event with a bit outside 1..I                                             0
      14  STATE    a state that does not fit; for a netlist, with bits past its registers       0
      15  BUFFER   a lent slice is too short                                                    the length needed
-     16  CELL     cells 0..I+1 not as they must be, kinds 0 to 2 elsewhere, an operand that    offset of the kind, operand or count
-                  is no cell, fewer than 2+I+O cells, or something in a field that is not used
+     16  CELL     cells 0..I+1 not as they must be, kinds 0 to 2 elsewhere, an operand that    offset of the kind, truth table,
+                  is no cell, a truth table that is none of the three, fewer than 2+I+O        operand or count
+                  cells, or something in a field that is not used
      20  ORDER    a pin order of 24 or more                                                    0
 
    Where a netlist is handed in as words there are no bytes, and what would be an offset is 0. The numbers are looked for in the order 1 to 8 as the bytes are read, then 9, 10,
@@ -42,6 +43,9 @@
 
    STATES are 64 bits. Of a sheet: bit 0 is boot, bit 1+h is halt h, halts being counted from 0 in reading order. Of a netlist: its registers in cell order. For a compiled
    sheet these are the same. The fresh state is 0.
+
+   NETLIST FILES. I, O, the count of cells, then for each cell its kind and operands, all of them numbers. A gate is written as kind 7, its truth table, x and y: bit x + 2 y of the truth
+   table is what the gate gives, so 14 is or, 8 and, 2 butnot. The kinds 3, 4, 5 of a word, without a truth table, are read as well and not written.
 
    CELLS AS WORDS. A cell is one word, kind + 8*x + 524288*y (kind in bits 0..2, x in bits 3..18, y in bits 19..34):
 

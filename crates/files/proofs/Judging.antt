@@ -38,22 +38,22 @@ unfolding judgeCount pick
 right-count {I} {O} {m} h = simp (le-ltb maxCells m (h .few), le-ltb m (2 + I + O) (h .enough))
 
 -- and of a kind
-pub record KindRight (I : ℕ) (x : CellNo) (k kind : ℕ) : Type 0 where
-  pub low : kind ≤ 6
+pub record KindRight (highest I : ℕ) (x : CellNo) (k kind : ℕ) : Type 0 where
+  pub low : kind ≤ highest
   pub room : (eqb kind 6 && leb maxRegisters k) ≡ false
   pub fits : kindFits I x kind ≡ true
 
-pub kind-right : (I : ℕ) (x : CellNo) (k kind : ℕ) → judgeKind I x k kind ≡ Right → KindRight I x k kind
+pub kind-right : (highest I : ℕ) (x : CellNo) (k kind : ℕ) → judgeKind highest I x k kind ≡ Right → KindRight highest I x k kind
 unfolding judgeKind pick
-kind-right I x k kind = go (ltb 6 kind) refl (eqb kind 6 && leb maxRegisters k) refl (kindFits I x kind) refl
+kind-right highest I x k kind = go (ltb highest kind) refl (eqb kind 6 && leb maxRegisters k) refl (kindFits I x kind) refl
   where
-    go : (a : Bool) → ltb 6 kind ≡ a → (b : Bool) → (eqb kind 6 && leb maxRegisters k) ≡ b → (d : Bool) → kindFits I x kind ≡ d
-        → pick a (Wrong Kind) (pick b (Wrong Count) (pick d Right (Wrong CellFault))) ≡ Right → KindRight I x k kind
+    go : (a : Bool) → ltb highest kind ≡ a → (b : Bool) → (eqb kind 6 && leb maxRegisters k) ≡ b → (d : Bool) → kindFits I x kind ≡ d
+        → pick a (Wrong Kind) (pick b (Wrong Count) (pick d Right (Wrong CellFault))) ≡ Right → KindRight highest I x k kind
     go true p b q d r e = absurd (wrong-right e)
     go false p true q d r e = absurd (wrong-right e)
     go false p false q false r e = absurd (wrong-right e)
-    go false p false q true r e = record { low = ltb-false 6 kind p; room = q; fits = r }
+    go false p false q true r e = record { low = ltb-false highest kind p; room = q; fits = r }
 
-pub right-kind : {I : ℕ} {x : CellNo} {k kind : ℕ} → KindRight I x k kind → judgeKind I x k kind ≡ Right
+pub right-kind : {highest I : ℕ} {x : CellNo} {k kind : ℕ} → KindRight highest I x k kind → judgeKind highest I x k kind ≡ Right
 unfolding judgeKind pick
-right-kind {I} {x} {k} {kind} h = simp (le-ltb 6 kind (h .low), h .room, h .fits)
+right-kind {highest} {I} {x} {k} {kind} h = simp (le-ltb highest kind (h .low), h .room, h .fits)

@@ -1,3 +1,4 @@
+pub mod Truths
 pub mod Judging
 pub mod Reading
 pub mod Standing

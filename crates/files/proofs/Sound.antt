@@ -1,12 +1,12 @@
 -- What was read or judged is well formed, and what that gives a run.
 use Prim.Native.Nat.{ℕ, _+_, _≤_}
 use mathlib.Core.Path.{_≡_, refl}
-use mathlib.Core.Bool.{true, false, _&&_}
+use mathlib.Core.Bool.{Bool, true, false, _&&_}
 use mathlib.Core.List.{List, [], _∷_}
 use native.Mathlib.Omega.{arith}
-use lib.Dec.{ltb}
+use lib.Dec.{eqb, ltb, leb}
 use lib.ListN.{length}
-use borrow.Author.Tests.{ltb-false, le-ltb}
+use borrow.Author.Tests.{ne-eqb, ltb-false, le-ltb}
 use Rattle.number.specs.declared.CellNo.{CellNo}
 use Rattle.number.specs.declared.Cursor.{Cursor}
 use Rattle.number.specs.declared.NumberRead.{NumberRead}
@@ -14,32 +14,61 @@ use Rattle.number.specs.declared.NumberRead.the-variants.{Value, Refused as NoN
 use Rattle.number.specs.Counts.{cellNo}
 use Rattle.number.specs.Number.{pick, numberAt}
 use Rattle.limits.specs.Limits.{maxSignals, maxRegisters, manySignals}
+use Rattle.cells.specs.declared.Gate as gate
+use Rattle.cells.specs.declared.Gate.the-variants.{Or, And, Butnot}
 use Rattle.cells.specs.declared.Cell.{Cell}
 use Rattle.cells.specs.declared.Cell.the-variants.{Low, High, Input, Gate, Register}
-use Rattle.cells.specs.Cells.{kindOf, nextCell}
+use Rattle.cells.specs.Cells.{gateKind, kindOf, nextCell}
 use Rattle.cells.specs.Values.{tally}
-use Rattle.cells.specs.Netlist.{Netlist, isNet, operandsFit, WellFormed}
+use Rattle.cells.specs.Netlist.{Netlist, kindFits, isNet, operandsFit, WellFormed}
+use Rattle.cells.proofs.Words.{gate-kind-low}
 use Rattle.cells.proofs.Fitting.{tally-room, Fit, fit-none, fit-more}
 use Rattle.files.specs.declared.Judgement.{Judgement}
 use Rattle.files.specs.declared.Judgement.the-variants.{Right, Wrong}
-use Rattle.files.specs.Judge.{judgeCount}
+use Rattle.files.specs.Judge.{judgeCount, fileKinds}
 use Rattle.files.specs.Read.{CellsOutcome, got, refused, readCells, FileOutcome, netlist, faulty, ended, bodyAt, counted, afterCount, countAt}
 use Rattle.files.specs.Read.{afterOutputs, afterInputs, readFile}
 use Rattle.files.proofs.Judging.{count-right, kind-right}
-use Rattle.files.proofs.Standing.{by-test, PairStands, Operands, CellsStand, AllStand, cells-stand, stand-read}
+use Rattle.files.proofs.Standing.{by-test, PairStands, own, table, Operands, CellsStand, AllStand, cells-stand, stand-read}
 
 -- Cells that stand in a file fit.
 
 pair-fits : {s : List ℕ} {m at : ℕ} {y z : CellNo} {past : Cursor} → PairStands s m at y z past → (isNet m y && isNet m z) ≡ true
 pair-fits h = rw (h .first .is, h .second .is) refl
 
-operands-fit : (s : List ℕ) (m : ℕ) (x : CellNo) (at : ℕ) (c : Cell) (past : Cursor) → Operands s m x at c past → operandsFit m x c ≡ true
+operands-fit : (s : List ℕ) (m : ℕ) (x : CellNo) (at k : ℕ) (c : Cell) (past : Cursor) → Operands s m x at k c past
+    → operandsFit m x c ≡ true
 unfolding operandsFit
-operands-fit s m x at Low past h = refl
-operands-fit s m x at High past h = refl
-operands-fit s m x at (Input v) past h = h .is
-operands-fit s m x at (Gate g y z) past h = pair-fits h
-operands-fit s m x at (Register y) past h = h .is
+operands-fit s m x at k Low past h = refl
+operands-fit s m x at k High past h = refl
+operands-fit s m x at k (Input v) past h = h .1 .is
+operands-fit s m x at k (Gate g y z) past (own e h) = pair-fits h
+operands-fit s m x at k (Gate g y z) past (table e h) = pair-fits (h .pair)
+operands-fit s m x at k (Register y) past h = h .1 .is
+
+-- where kind 7 may stand the gate's own kind may, and no gate is a register
+gate-fits : (I : ℕ) (x : CellNo) (g : gate.Gate) → kindFits I x 7 ≡ true → kindFits I x (gateKind g) ≡ true
+unfolding kindFits
+gate-fits I x Or h = h
+gate-fits I x And h = h
+gate-fits I x Butnot h = h
+
+kind-fits : (s : List ℕ) (I m : ℕ) (x : CellNo) (at k : ℕ) (c : Cell) (past : Cursor) → Operands s m x at k c past
+    → kindFits I x k ≡ true → kindFits I x (kindOf c) ≡ true
+kind-fits s I m x at k Low past h fits = rw (h .0) at fits
+kind-fits s I m x at k High past h fits = rw (h .0) at fits
+kind-fits s I m x at k (Input v) past h fits = rw (h .0) at fits
+kind-fits s I m x at k (Gate g y z) past (own e h) fits = rw e at fits
+kind-fits s I m x at k (Gate g y z) past (table e h) fits = gate-fits I x g (rw e at fits)
+kind-fits s I m x at k (Register y) past h fits = rw (h .0) at fits
+
+room-kept : (s : List ℕ) (m : ℕ) (x : CellNo) (at k : ℕ) (c : Cell) (past : Cursor) (b : Bool) → Operands s m x at k c past
+    → (eqb k 6 && b) ≡ false → (eqb (kindOf c) 6 && b) ≡ false
+room-kept s m x at k Low past b h room = refl
+room-kept s m x at k High past b h room = refl
+room-kept s m x at k (Input v) past b h room = refl
+room-kept s m x at k (Gate g y z) past b h room = rw (ne-eqb (gateKind g) 6 (λ e. omega (arith, gate-kind-low g)))
+room-kept s m x at k (Register y) past b h room = rw (h .0) at room
 
 stand-fit : (s : List ℕ) (I m : ℕ) (x : CellNo) (k at : ℕ) (cs : List Cell) (end : ℕ) → k ≤ maxRegisters
     → CellsStand s I m x k at cs end → Fit I m x k cs
@@ -47,9 +76,12 @@ unfolding CellsStand
 stand-fit s I m x k at [] end few h = fit-none I m x k few
 stand-fit s I m x k at (c ∷ cs) end few h =
     let this = h .1 in
-    let kind = kind-right I x k (kindOf c) (this .right) in
-    fit-more c cs (kind .fits) (operands-fit s m x (this .mid .at) c (h .0) (this .operands))
-    (stand-fit s I m (nextCell x) (tally c k) (h .0 .at) cs end (tally-room c k few (kind .room)) (h .2))
+    let kind = kind-right fileKinds I x k (this .k) (this .right) in
+    let at′ : ℕ = this .mid .at in
+    let fits = kind-fits s I m x at′ (this .k) c (h .0) (this .operands) (kind .fits) in
+    let room = room-kept s m x at′ (this .k) c (h .0) (leb maxRegisters k) (this .operands) (kind .room) in
+    fit-more c cs fits (operands-fit s m x at′ (this .k) c (h .0) (this .operands))
+    (stand-fit s I m (nextCell x) (tally c k) (h .0 .at) cs end (tally-room c k few room) (h .2))
 
 -- A file that was read: its header, and its cells.
 pub record FileStands (s : List ℕ) (w : Netlist) : Type 0 where

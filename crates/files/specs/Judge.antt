@@ -14,9 +14,16 @@ use Rattle.files.specs.declared.Judgement.the-variants.{Right, Wrong}
 unfoldable pub judgeCount : ℕ → ℕ → ℕ → Judgement
 judgeCount I O m = pick (manyCells m) (Wrong Count) (pick (ltb m (2 + I + O)) (Wrong Cell) Right)
 
--- "KIND: .. over 6 in a file"; "over 64 registers: COUNT at the kind", k of them before cell x; "kind's place"
-unfoldable pub judgeKind : ℕ → CellNo → ℕ → ℕ → Judgement
-judgeKind I x k kind =
-    pick (ltb 6 kind) (Wrong Kind)
+-- the highest kind in a file: "KIND from 8 on"; and in cells as words, whose "kinds stay 3, 4, 5"
+abbrev pub fileKinds : ℕ
+fileKinds = 7
+
+abbrev pub wordKinds : ℕ
+wordKinds = 6
+
+-- KIND past the highest kind; "over 64 registers: COUNT at the kind", k of them before cell x; "kind's place"
+unfoldable pub judgeKind : ℕ → ℕ → CellNo → ℕ → ℕ → Judgement
+judgeKind highest I x k kind =
+    pick (ltb highest kind) (Wrong Kind)
     (pick (eqb kind 6 && leb maxRegisters k) (Wrong Count)
     (pick (kindFits I x kind) Right (Wrong Cell)))

@@ -1,6 +1,7 @@
 -- Reading a netlist file: "header numbers one by one, each checked before the next is read (1+I+O over 64 or over 1,024 cells: COUNT, the latter at the
 -- count's offset; then CELL), cells in order (over 64 registers: COUNT at the kind; kind's place, then operands), EXTRA, 12". CYCLE, 12, is judged of the
 -- cells in either form, in `netlists`.
+use mathlib.Core.Bool.{Bool, _||_}
 use mathlib.Core.List.{List, [], _∷_}
 use Prim.Native.Nat.{ℕ, zero, suc}
 use lib.Dec.{ltb, eqb}
@@ -15,6 +16,8 @@ use Rattle.number.specs.Counts.{cellNo, ofCell, signalNo}
 use Rattle.number.specs.Number.{pick, cursor, numberAt}
 use Rattle.number.specs.Refusals.{fault}
 use Rattle.limits.specs.Limits.{manySignals}
+use Rattle.cells.specs.declared.Gate as gate
+use Rattle.cells.specs.declared.Gate.the-variants.{Or, And, Butnot}
 use Rattle.cells.specs.declared.Cell.{Cell}
 use Rattle.cells.specs.declared.Cell.the-variants.{Low, High, Input, Gate, Register}
 use Rattle.cells.specs.Cells.{signalCell, nextCell}
@@ -29,7 +32,8 @@ use Rattle.files.specs.declared.PairRead.{PairRead}
 use Rattle.files.specs.declared.PairRead.the-variants.{Pair, Refused as NoPair}
 use Rattle.files.specs.declared.CellRead.{CellRead}
 use Rattle.files.specs.declared.CellRead.the-variants.{Read, Refused as NoCell}
-use Rattle.files.specs.Judge.{judgeCount, judgeKind}
+use Rattle.files.specs.File.{truthTable}
+use Rattle.files.specs.Judge.{judgeCount, fileKinds, judgeKind}
 
 -- an operand of one of m cells: "operand not a cell" is CELL at the offset of the operand
 unfoldable pub netOf : ℕ → ℕ → NumberRead → NetRead
@@ -56,23 +60,35 @@ unfoldable pub inputOf : CellNo → ℕ → NumberRead → CellRead
 inputOf x at (NoNumber f) = NoCell f
 inputOf x at (Value v c) = pick (eqb (ofCell (signalCell (signalNo v))) (ofCell x)) (Read (Input (signalNo v)) c) (NoCell (fault CellFault at))
 
--- "3 or x y; 4 and x y; 5 butnot x y"
-unfoldable pub gateOf : ℕ → PairRead → CellRead
-gateOf k (NoPair f) = NoCell f
-gateOf k (Pair x y c) = Read (Gate (gateIn k) x y) c
+unfoldable pub gateOf : gate.Gate → PairRead → CellRead
+gateOf g (NoPair f) = NoCell f
+gateOf g (Pair x y c) = Read (Gate g x y) c
+
+-- "truth table 14, 8 or 2": whether it is one of the three, and of which gate
+abbrev pub isTruthTable : ℕ → Bool
+isTruthTable t = eqb t (truthTable Or) || (eqb t (truthTable And) || eqb t (truthTable Butnot))
+
+abbrev pub gateWith : ℕ → gate.Gate
+gateWith t = pick (eqb t (truthTable Or)) Or (pick (eqb t (truthTable And)) And Butnot)
+
+-- "the truth table is read as a number .. and judged (CELL there), then the operands"
+unfoldable pub tableOf : List ℕ → ℕ → ℕ → NumberRead → CellRead
+tableOf s m at (NoNumber f) = NoCell f
+tableOf s m at (Value t c) = pick (isTruthTable t) (gateOf (gateWith t) (pairAt s m (c .at))) (NoCell (fault CellFault at))
 
 -- "6 register x"
 unfoldable pub registerOf : NetRead → CellRead
 registerOf (NoNet f) = NoCell f
 registerOf (Net x c) = Read (Register x) c
 
--- the operands that kind k, at most 6, has
+-- the operands that kind k, at most 7, has: "3 or x y; 4 and x y; 5 butnot x y" as before
 unfoldable pub operandsAt : List ℕ → ℕ → CellNo → ℕ → ℕ → CellRead
 operandsAt s m x at k =
     pick (eqb k 0) (Read Low (cursor at))
     (pick (eqb k 1) (Read High (cursor at))
     (pick (eqb k 2) (inputOf x at (numberAt s at))
-    (pick (eqb k 6) (registerOf (netAt s m at)) (gateOf k (pairAt s m at)))))
+    (pick (eqb k 6) (registerOf (netAt s m at))
+    (pick (eqb k 7) (tableOf s m at (numberAt s at)) (gateOf (gateIn k) (pairAt s m at))))))
 
 -- what is wrong with the kind is refused at the kind
 unfoldable pub ofKind : List ℕ → ℕ → CellNo → ℕ → ℕ → ℕ → Judgement → CellRead
@@ -81,7 +97,7 @@ ofKind s m x place at k Right = operandsAt s m x at k
 
 unfoldable pub afterKind : List ℕ → ℕ → ℕ → CellNo → ℕ → ℕ → NumberRead → CellRead
 afterKind s I m x registers at (NoNumber f) = NoCell f
-afterKind s I m x registers at (Value k c) = ofKind s m x at (c .at) k (judgeKind I x registers k)
+afterKind s I m x registers at (Value k c) = ofKind s m x at (c .at) k (judgeKind fileKinds I x registers k)
 
 -- the cell x, one of m, with so many registers before it
 unfoldable pub readCell : List ℕ → ℕ → ℕ → CellNo → ℕ → ℕ → CellRead

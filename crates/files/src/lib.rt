@@ -1,5 +1,6 @@
 // The reader of netlist files.
 use cells::Cell;
+use cells::Gate;
 use number::CellNo;
 use number::Cursor;
 use number::Fault;
@@ -16,8 +17,12 @@ ghost use Rattle.number.specs.Refusals.{fault};
 ghost use Rattle.limits.specs.Limits.{maxSignals, maxCells, maxRegisters};
 ghost use Rattle.cells.specs.Netlist.{kindFits};
 ghost use Rattle.files.specs.Judge.{judgeCount, judgeKind};
-ghost use Rattle.files.specs.Read.{netAt, pairAt, inputOf, gateOf, registerOf, operandsAt, readCell, readCells, bodyAt, countAt, readFile};
+ghost use Rattle.files.specs.Read.{netAt, pairAt, inputOf, gateOf, tableOf, registerOf, operandsAt, readCell, readCells, bodyAt, countAt, readFile};
 ghost use Rattle.files.specs.Answer.{DidCells, DidFile};
+
+// The highest kind in a file, and in cells as words.
+pub const FILE_KINDS: u32 = 7;
+pub const WORD_KINDS: u32 = 6;
 
 // I, O and the count of cells.
 pub struct Header {
@@ -107,10 +112,10 @@ fn one_too_many(k: u32, registers: u32) -> bool
 }
 
 // A cell's kind: KIND, COUNT, CELL.
-pub fn judge_kind(i: u32, x: CellNo, registers: u32, k: u32) -> Judgement
-    ensures { λ r. ⌜ r ≡ judgeKind i x registers k ⌝ }
+pub fn judge_kind(highest: u32, i: u32, x: CellNo, registers: u32, k: u32) -> Judgement
+    ensures { λ r. ⌜ r ≡ judgeKind highest i x registers k ⌝ }
 {
-    if 6 < k {
+    if highest < k {
         return Judgement::Wrong(Refusal::Kind);
     }
     if one_too_many(k, registers) {
@@ -152,6 +157,15 @@ fn read_pair(s: &[u8], m: u32, at: usize) -> PairRead
     }
 }
 
+fn wrong_cell(place: usize) -> CellRead
+    ensures { λ r. ⌜ r ≡ CellRead.Refused (fault Refusal.Cell place) ⌝ }
+{
+    CellRead::Refused(Fault {
+        refusal: Refusal::Cell,
+        place,
+    })
+}
+
 // The operand of an input: cell x has the signal before it.
 fn read_input(s: &[u8], x: CellNo, at: usize) -> CellRead
     ensures { λ r. ⌜ r ≡ inputOf x at (numberAt (now (s .entry)) at) ⌝ }
@@ -163,18 +177,31 @@ fn read_input(s: &[u8], x: CellNo, at: usize) -> CellRead
     if v + 1 == x.number() as u32 {
         return CellRead::Read(Cell::Input(SignalNo::new((v % 65536) as u16)), next);
     }
-    CellRead::Refused(Fault {
-        refusal: Refusal::Cell,
-        place: at,
-    })
+    wrong_cell(at)
 }
 
-fn read_gate(s: &[u8], m: u32, k: u32, at: usize) -> CellRead
-    ensures { λ r. ⌜ r ≡ gateOf k (pairAt (now (s .entry)) m at) ⌝ }
+fn read_gate(s: &[u8], m: u32, g: Gate, at: usize) -> CellRead
+    ensures { λ r. ⌜ r ≡ gateOf g (pairAt (now (s .entry)) m at) ⌝ }
 {
     match read_pair(s, m, at) {
         PairRead::Refused(f) => CellRead::Refused(f),
-        PairRead::Pair(x, y, next) => CellRead::Read(Cell::Gate(cells::gate_in(k), x, y), next),
+        PairRead::Pair(x, y, next) => CellRead::Read(Cell::Gate(g, x, y), next),
+    }
+}
+
+// A truth table, and the operands of the gate that it is.
+fn read_table(s: &[u8], m: u32, at: usize) -> CellRead
+    ensures { λ r. ⌜ r ≡ tableOf (now (s .entry)) m at (numberAt (now (s .entry)) at) ⌝ }
+{
+    let truth = number::read_number(s, at);
+    let NumberRead::Value(t, next) = truth else {
+        return CellRead::Refused(number::fault_of(truth));
+    };
+    match t {
+        14 => read_gate(s, m, Gate::Or, next.at),
+        8 => read_gate(s, m, Gate::And, next.at),
+        2 => read_gate(s, m, Gate::Butnot, next.at),
+        _ => wrong_cell(at),
     }
 }
 
@@ -187,7 +214,7 @@ fn read_register(s: &[u8], m: u32, at: usize) -> CellRead
     }
 }
 
-// The operands of a cell of kind k, at most 6.
+// The operands of a cell of kind k, at most 7.
 fn read_operands(s: &[u8], m: u32, x: CellNo, at: usize, k: u32) -> CellRead
     ensures { λ r. ⌜ r ≡ operandsAt (now (s .entry)) m x at k ⌝ }
 {
@@ -196,7 +223,8 @@ fn read_operands(s: &[u8], m: u32, x: CellNo, at: usize, k: u32) -> CellRead
         1 => CellRead::Read(Cell::High, Cursor { at }),
         2 => read_input(s, x, at),
         6 => read_register(s, m, at),
-        _ => read_gate(s, m, k, at),
+        7 => read_table(s, m, at),
+        _ => read_gate(s, m, cells::gate_in(k), at),
     }
 }
 
@@ -208,7 +236,7 @@ fn read_cell(s: &[u8], h: Header, x: CellNo, registers: u32, at: usize) -> CellR
     let NumberRead::Value(k, next) = r else {
         return CellRead::Refused(number::fault_of(r));
     };
-    match judge_kind(h.inputs, x, registers, k) {
+    match judge_kind(FILE_KINDS, h.inputs, x, registers, k) {
         Judgement::Wrong(refusal) => CellRead::Refused(Fault { refusal, place: at }),
         Judgement::Right => read_operands(s, h.cells, x, next.at, k),
     }

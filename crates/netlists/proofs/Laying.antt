@@ -16,16 +16,17 @@ use Rattle.number.specs.Number.{pick, numberBytes, numberLength, hasRoom, writt
 use Rattle.number.specs.Refusals.{fault}
 use Rattle.number.proofs.Laws.{one-byte, length-at-most, room}
 use Rattle.limits.specs.Limits.{maxCells}
+use Rattle.cells.specs.declared.Gate as gate
 use Rattle.cells.specs.declared.Cell.{Cell}
 use Rattle.cells.specs.declared.Cell.the-variants.{Low, High, Input, Gate, Register}
-use Rattle.cells.specs.Cells.{kindOf}
 use Rattle.cells.specs.Words.{cellsOf}
 use Rattle.cells.specs.Netlist.{netlistOf, WellFormed}
 use Rattle.cells.proofs.Within.{Within, AllWithin, all-wider}
 use Rattle.number.proofs.Lists.{sets-append}
-use Rattle.cells.proofs.Words.{kind-low, cells-length, inside, at-end}
+use Rattle.cells.proofs.Words.{cells-length, inside, at-end}
 use Rattle.cells.proofs.Fitting.{formed-within}
-use Rattle.files.specs.File.{operandBytes, cellBytes, cellsBytes, fileBytes}
+use Rattle.files.specs.File.{truthTable, writtenKind, pairBytes, operandBytes, cellBytes, cellsBytes, fileBytes}
+use Rattle.files.proofs.Truths.{table-small}
 use Rattle.netlists.specs.declared.writer.FileWritten.the-variants.{Length, Refused}
 use Rattle.netlists.specs.Write.{fileLength, fileWritten, bufferWritten, DidWrite, Writes, SmallPair, SmallCell, SmallCells}
 
@@ -60,29 +61,49 @@ pub still-room : {a : List ℕ} (b : List ℕ) {at mid : ℕ} {s s₁ : List ℕ
     → mid + length b ≤ length s₁
 still-room {a} b {at} {mid} {s} {s₁} p fits = omega (arith, p .past, ap length (p .laid), length-sets s at a, length-append a b)
 
+-- a number in front of other bytes
+leading-writes : {v : ℕ} (b : List ℕ) {s : List ℕ} {at mid : ℕ} {s₁ : List ℕ} → v < 16384 → at + length (numberBytes v ++ b) ≤ length s
+    → Wrote s at v mid s₁ → Writes (numberBytes v) at mid s s₁
+leading-writes {v} b {s} {at} small fits w = number-writes small (first-room s (numberBytes v) b at fits) w
+
 -- two operands
 pub pair-writes : {x y : CellNo} {s : List ℕ} {at mid end : ℕ} {s₁ s₂ : List ℕ} → SmallPair x y
-    → at + length (numberBytes (ofCell x) ++ numberBytes (ofCell y)) ≤ length s → Wrote s at (ofCell x) mid s₁
-    → Wrote s₁ mid (ofCell y) end s₂
-    → Writes (numberBytes (ofCell x) ++ numberBytes (ofCell y)) at end s s₂
+    → at + length (pairBytes x y) ≤ length s → Wrote s at (ofCell x) mid s₁ → Wrote s₁ mid (ofCell y) end s₂
+    → Writes (pairBytes x y) at end s s₂
 pair-writes {x} {y} {s} {at} small fits w v =
-    let a : List ℕ = numberBytes (ofCell x) in
     let b : List ℕ = numberBytes (ofCell y) in
-    let first = number-writes (small .0) (first-room s a b at fits) w in
+    let first = leading-writes b (small .0) fits w in
     writes-more first (number-writes (small .1) (still-room b first fits) v)
 
--- a kind is one byte
-kind-length : (c : Cell) → numberLength (kindOf c) ≡ 1
-kind-length c = ap length (one-byte (kindOf c) (omega (arith, kind-low c)))
+-- a kind is one byte, and a truth table is
+written-low : (c : Cell) → writtenKind c ≤ 7
+written-low Low = omega arith
+written-low High = omega arith
+written-low (Input s) = omega arith
+written-low (Gate g x y) = omega arith
+written-low (Register x) = omega arith
+
+led : (v : ℕ) (b : List ℕ) → v < 128 → length (numberBytes v ++ b) ≡ 1 + length b
+led v b small = length-append (numberBytes v) b ∙ ap (λ (l : List ℕ). length l + length b) (one-byte v small)
 
 pub cell-length : (c : Cell) → length (cellBytes c) ≡ 1 + length (operandBytes c)
-cell-length c = length-append (numberBytes (kindOf c)) (operandBytes c) ∙ ap (λ (k : ℕ). k + length (operandBytes c)) (kind-length c)
+cell-length c = led (writtenKind c) (operandBytes c) (omega (arith, written-low c))
+
+pub gate-length : (g : gate.Gate) (x y : CellNo)
+    → length (operandBytes (Gate g x y)) ≡ 1 + (numberLength (ofCell x) + numberLength (ofCell y))
+gate-length g x y =
+    let pair = length-append (numberBytes (ofCell x)) (numberBytes (ofCell y)) in
+    led (truthTable g) (pairBytes x y) (omega (arith, table-small g)) ∙ ap (λ (k : ℕ). 1 + k) pair
 
 -- a kind, and the operands behind it
-pub kind-writes : (c : Cell) {s : List ℕ} {at mid : ℕ} {s₁ : List ℕ} → at + length (cellBytes c) ≤ length s → Wrote s at (kindOf c) mid s₁
-    → Writes (numberBytes (kindOf c)) at mid s s₁
-kind-writes c {s} {at} fits w =
-    number-writes (omega (arith, kind-low c)) (first-room s (numberBytes (kindOf c)) (operandBytes c) at fits) w
+pub kind-writes : (c : Cell) {s : List ℕ} {at mid : ℕ} {s₁ : List ℕ} → at + length (cellBytes c) ≤ length s → Wrote s at (writtenKind c) mid s₁
+    → Writes (numberBytes (writtenKind c)) at mid s s₁
+kind-writes c fits w = leading-writes (operandBytes c) (omega (arith, written-low c)) fits w
+
+-- a truth table, and the operands behind it
+pub table-writes : (g : gate.Gate) (x y : CellNo) {s : List ℕ} {at mid : ℕ} {s₁ : List ℕ} → at + length (operandBytes (Gate g x y)) ≤ length s
+    → Wrote s at (truthTable g) mid s₁ → Writes (numberBytes (truthTable g)) at mid s s₁
+table-writes g x y fits w = leading-writes (pairBytes x y) (omega (arith, table-small g)) fits w
 
 -- the cells from number n on
 pub cells-from : (cs : List Cell) (n : ℕ) → n < length cs
@@ -138,18 +159,14 @@ module _ (words buffer₀ : List ℕ) (start : ℕ) where
     ends h = rw (no-cells (cellsOf words) n (at-end words h)) at (r .same)
 
 -- Lengths.
-two-short : (x y : CellNo) → length (numberBytes (ofCell x) ++ numberBytes (ofCell y)) ≤ 4
-two-short x y =
-    omega (arith, length-append (numberBytes (ofCell x)) (numberBytes (ofCell y)), length-at-most (ofCell x), length-at-most (ofCell y))
-
-operands-short : (c : Cell) → length (operandBytes c) ≤ 4
+operands-short : (c : Cell) → length (operandBytes c) ≤ 5
 operands-short Low = omega arith
 operands-short High = omega arith
 operands-short (Input s) = omega (arith, length-at-most (ofSignal s))
-operands-short (Gate g x y) = two-short x y
+operands-short (Gate g x y) = omega (arith, gate-length g x y, length-at-most (ofCell x), length-at-most (ofCell y))
 operands-short (Register x) = omega (arith, length-at-most (ofCell x))
 
-cells-short : (cs : List Cell) → length (cellsBytes cs) ≤ 5 * length cs
+cells-short : (cs : List Cell) → length (cellsBytes cs) ≤ 6 * length cs
 unfolding cellsBytes
 cells-short [] = omega arith
 cells-short (c ∷ cs) =

@@ -10,11 +10,11 @@ use Rattle.cells.specs.Netlist.{Netlist, netlistOf, WellFormed}
 use Rattle.order.specs.Paths.{Ordered}
 use Rattle.files.specs.declared.Header.{Header}
 use Rattle.files.specs.declared.FileRead.the-variants.{Read}
-use Rattle.files.specs.File.{fileBytes}
+use Rattle.files.specs.File.{fileBytes, FileSpelled}
 use Rattle.files.specs.Read.{FileOutcome, netlist, readFile}
 use Rattle.files.specs.Answer.{headerOf, FileLaid}
 use Rattle.files.proofs.Sound.{read-well-formed}
-use Rattle.files.proofs.ReadBack.{file-read-back, file-only-bytes}
+use Rattle.files.proofs.ReadBack.{spelled-read, file-new, file-spelled}
 use Rattle.netlists.specs.Words.{judgeCells}
 use Rattle.netlists.specs.Check.{NetChecks, accepted, ChecksFile}
 use Rattle.netlists.specs.Checked.{IsOrdered, DidCheck, DidCheckFile}
@@ -86,9 +86,14 @@ module _ (I O : ℕ) (words : List ℕ) {h : Header} {order : List ℕ} (d : Did
   pub cells-ordered : Ordered (cellsOf words) order
   cells-ordered = subst (λ (w : Netlist). Ordered (w .cells) order) (right .is) (cells .ordered)
 
--- The accepted files are the files of the well-formed netlists whose cells have an order.
-pub accepted-file : (s : List ℕ) {w : Netlist} → Bytes s → ChecksFile s (netlist w) → (s ≡ fileBytes w) × WellFormed w
-accepted-file s are c = (file-only-bytes s are (accepted-found c), read-well-formed s (accepted-found c))
+-- The accepted files are those that spell the well-formed netlists whose cells have an order ..
+pub accepted-file : (s : List ℕ) {w : Netlist} → Bytes s → ChecksFile s (netlist w) → ((n : ℕ) × FileSpelled s w n) × WellFormed w
+accepted-file s are c = (file-spelled s are (accepted-found c), read-well-formed s (accepted-found c))
 
-pub file-accepted : (w : Netlist) (order : List ℕ) → WellFormed w → Ordered (w .cells) order → ChecksFile (fileBytes w) (netlist w)
-file-accepted w order h ordered = accepted order (file-read-back w h) ordered
+pub file-accepted : {s : List ℕ} {w : Netlist} {n : ℕ} (order : List ℕ) → FileSpelled s w n → WellFormed w → Ordered (w .cells) order
+    → ChecksFile s (netlist w)
+file-accepted order spelled h ordered = accepted order (spelled-read spelled h) ordered
+
+-- .. and what is written is one of them.
+pub written-accepted : (w : Netlist) (order : List ℕ) → WellFormed w → Ordered (w .cells) order → ChecksFile (fileBytes w) (netlist w)
+written-accepted w order h ordered = file-accepted order (file-new w) h ordered

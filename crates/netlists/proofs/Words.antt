@@ -28,7 +28,7 @@ use Rattle.cells.proofs.Fitting.{tally-room, Fit, fit-none, fit-more}
 use Rattle.files.specs.declared.Judgement.{Judgement}
 use Rattle.files.specs.declared.Judgement.the-variants.{Right, Wrong}
 use Rattle.files.specs.declared.FileRead.the-variants.{Read, Refused}
-use Rattle.files.specs.Judge.{judgeCount, judgeKind}
+use Rattle.files.specs.Judge.{judgeCount, wordKinds, judgeKind}
 use Rattle.files.specs.Read.{FileOutcome, netlist, faulty}
 use Rattle.files.specs.Answer.{fileAnswer}
 use Rattle.netlists.specs.Words.{isPacked, judgeFields, judgeWord, unless, judgeWords, atZero, judgeCells}
@@ -37,11 +37,11 @@ use Rattle.files.proofs.Standing.{by-test}
 
 -- one word
 module _ (I m : ℕ) (x : CellNo) (k w : ℕ) where
-  pub kind-wrong : {r : Refusal} → judgeKind I x k (w % 8) ≡ Wrong r → judgeWord I m x k w ≡ Wrong r
+  pub kind-wrong : {r : Refusal} → judgeKind wordKinds I x k (w % 8) ≡ Wrong r → judgeWord I m x k w ≡ Wrong r
   unfolding judgeWord judgeFields
   kind-wrong e = rw e
 
-  module _ (kind : judgeKind I x k (w % 8) ≡ Right) where
+  module _ (kind : judgeKind wordKinds I x k (w % 8) ≡ Right) where
     pub operands-wrong : operandsFit m x (cellIn w) ≡ false → judgeWord I m x k w ≡ Wrong CellFault
     unfolding judgeWord judgeFields pick
     operands-wrong e = rw kind (rw e)
@@ -110,9 +110,9 @@ fields-right m x w Right e =
     let both : (fit && same) ≡ true = picked (fit && same) e in
     record { right = refl; operands = and-left fit same both; packed = eqb-true (word (cellIn w)) w (and-right fit same both) }
 
-right-word : (I m : ℕ) (x : CellNo) (k w : ℕ) → judgeWord I m x k w ≡ Right → WordRight m x w (judgeKind I x k (w % 8))
+right-word : (I m : ℕ) (x : CellNo) (k w : ℕ) → judgeWord I m x k w ≡ Right → WordRight m x w (judgeKind wordKinds I x k (w % 8))
 unfolding judgeWord
-right-word I m x k w e = fields-right m x w (judgeKind I x k (w % 8)) e
+right-word I m x k w e = fields-right m x w (judgeKind wordKinds I x k (w % 8)) e
 
 record Both (j next : Judgement) : Type 0 where
   first : j ≡ Right
@@ -136,7 +136,7 @@ words-fit I m x k (w ∷ ws) few e =
     let next : ℕ = tally c k in
     let parts = unless-right (judgeWord I m x k w) (judgeWords I m (nextCell x) next ws) e in
     let this = right-word I m x k w (parts .first) in
-    let low = kind-right I x k (w % 8) (this .right) in
+    let low = kind-right wordKinds I x k (w % 8) (this .right) in
     let kind : kindOf c ≡ w % 8 = kind-in w (low .low) in
     let room : tally c k ≤ maxRegisters = tally-room c k few (rw kind (low .room)) in
     let rest = words-fit I m (nextCell x) next ws room (parts .rest) in

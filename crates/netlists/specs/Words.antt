@@ -16,7 +16,7 @@ use Rattle.cells.specs.Values.{tally}
 use Rattle.cells.specs.Netlist.{Netlist, netlistOf, operandsFit}
 use Rattle.files.specs.declared.Judgement.{Judgement}
 use Rattle.files.specs.declared.Judgement.the-variants.{Right, Wrong}
-use Rattle.files.specs.Judge.{judgeCount, judgeKind}
+use Rattle.files.specs.Judge.{judgeCount, wordKinds, judgeKind}
 use Rattle.files.specs.Read.{FileOutcome, netlist, faulty}
 
 -- nothing stands in a field that the word's kind does not use
@@ -30,7 +30,7 @@ judgeFields m x w Right = pick (operandsFit m x (cellIn w) && isPacked w) Right 
 
 -- the word of cell x, one of m, with so many registers before it. Kind 7 is "KIND: .. over 6".
 unfoldable pub judgeWord : ℕ → ℕ → CellNo → ℕ → ℕ → Judgement
-judgeWord I m x registers w = judgeFields m x w (judgeKind I x registers (w % 8))
+judgeWord I m x registers w = judgeFields m x w (judgeKind wordKinds I x registers (w % 8))
 
 -- go on where nothing is wrong
 unfoldable pub unless : Judgement → Judgement → Judgement

@@ -52,7 +52,7 @@ fn judge_word(words: &[u64], h: Header, x: CellNo, registers: u32) -> Judgement
     ensures { λ r. ⌜ r ≡ judgeWord (h .inputs) (h .cells) x registers (getD (now (words .entry)) (ofCell x) 0) ⌝ }
 {
     let w = words[x.number() as usize];
-    match files::judge_kind(h.inputs, x, registers, (w % 8) as u32) {
+    match files::judge_kind(files::WORD_KINDS, h.inputs, x, registers, (w % 8) as u32) {
         Judgement::Wrong(refusal) => Judgement::Wrong(refusal),
         Judgement::Right => {
             let c = cells::cell_at(words, x);

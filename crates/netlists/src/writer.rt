@@ -1,5 +1,6 @@
 // The writer of netlist files.
 use cells::Cell;
+use cells::Gate;
 use number::CellNo;
 use number::Fault;
 use number::Refusal;
@@ -9,11 +10,11 @@ ghost use Prim.Native.Nat.{_+_, _≤_};
 ghost use lib.ListN.{length};
 ghost use lib.Seq.{sets};
 ghost use Rattle.number.specs.Counts.{ofCell};
-ghost use Rattle.number.specs.Number.{numberBytes, numberLength};
+ghost use Rattle.number.specs.Number.{numberLength};
 ghost use Rattle.limits.specs.Limits.{maxCells};
 ghost use Rattle.cells.specs.Words.{cellsOf};
 ghost use Rattle.cells.specs.Netlist.{netlistOf, WellFormed};
-ghost use Rattle.files.specs.File.{operandBytes, cellBytes, cellsBytes};
+ghost use Rattle.files.specs.File.{truthTable, writtenKind, pairBytes, operandBytes, cellBytes, cellsBytes};
 ghost use Rattle.netlists.specs.Write.{fileLength, SmallPair, SmallCell, SmallCells, Writes, DidWrite};
 
 // The length of the file that was written, or BUFFER.
@@ -37,6 +38,7 @@ fn pair_length(x: CellNo, y: CellNo) -> usize
     number_length(x.number() as u32) + number_length(y.number() as u32)
 }
 
+// A truth table's number has one byte.
 fn operand_length(c: Cell) -> usize
     ensures { λ r. ⌜ r ≡ length (operandBytes c) ⌝ }
 {
@@ -44,7 +46,7 @@ fn operand_length(c: Cell) -> usize
         Cell::Low => 0,
         Cell::High => 0,
         Cell::Input(s) => number_length(s.number() as u32),
-        Cell::Gate(_, x, y) => pair_length(x, y),
+        Cell::Gate(_, x, y) => 1 + pair_length(x, y),
         Cell::Register(x) => number_length(x.number() as u32),
     }
 }
@@ -63,12 +65,45 @@ fn file_length(i: u32, o: u32, words: &[u64]) -> usize
     length
 }
 
+// The truth table of a gate: bit x + 2 y is what it gives.
+fn truth_table(g: Gate) -> u32
+    ensures { λ r. ⌜ r ≡ truthTable g ⌝ }
+{
+    match g {
+        Gate::Or => 14,
+        Gate::And => 8,
+        Gate::Butnot => 2,
+    }
+}
+
+// The kind that is written for a cell.
+fn written_kind(c: Cell) -> u32
+    ensures { λ r. ⌜ r ≡ writtenKind c ⌝ }
+{
+    match c {
+        Cell::Low => 0,
+        Cell::High => 1,
+        Cell::Input(_) => 2,
+        Cell::Gate(_, _, _) => 7,
+        Cell::Register(_) => 6,
+    }
+}
+
 fn write_pair(buffer: &mut [u8], at: usize, x: CellNo, y: CellNo) -> usize
-    requires { ⌜ SmallPair x y × (at + length (numberBytes (ofCell x) ++ numberBytes (ofCell y)) ≤ length (now buffer)) ⌝ }
-    ensures { λ r. ⌜ Writes (numberBytes (ofCell x) ++ numberBytes (ofCell y)) at r (now (buffer .entry)) (now (buffer .exit)) ⌝ }
+    requires { ⌜ SmallPair x y × (at + length (pairBytes x y) ≤ length (now buffer)) ⌝ }
+    ensures { λ r. ⌜ Writes (pairBytes x y) at r (now (buffer .entry)) (now (buffer .exit)) ⌝ }
 {
     let next = number::write_number(buffer, at, x.number() as u32);
     number::write_number(buffer, next, y.number() as u32)
+}
+
+// A gate's truth table, and its operands.
+fn write_gate(buffer: &mut [u8], at: usize, g: Gate, x: CellNo, y: CellNo) -> usize
+    requires { ⌜ SmallPair x y × (at + length (operandBytes (Cell.Gate g x y)) ≤ length (now buffer)) ⌝ }
+    ensures { λ r. ⌜ Writes (operandBytes (Cell.Gate g x y)) at r (now (buffer .entry)) (now (buffer .exit)) ⌝ }
+{
+    let next = number::write_number(buffer, at, truth_table(g));
+    write_pair(buffer, next, x, y)
 }
 
 fn write_operands(buffer: &mut [u8], at: usize, c: Cell) -> usize
@@ -79,7 +114,7 @@ fn write_operands(buffer: &mut [u8], at: usize, c: Cell) -> usize
         Cell::Low => at,
         Cell::High => at,
         Cell::Input(s) => number::write_number(buffer, at, s.number() as u32),
-        Cell::Gate(_, x, y) => write_pair(buffer, at, x, y),
+        Cell::Gate(g, x, y) => write_gate(buffer, at, g, x, y),
         Cell::Register(x) => number::write_number(buffer, at, x.number() as u32),
     }
 }
@@ -89,7 +124,7 @@ fn write_cell(buffer: &mut [u8], at: usize, c: Cell) -> usize
     requires { ⌜ SmallCell c × (at + length (cellBytes c) ≤ length (now buffer)) ⌝ }
     ensures { λ r. ⌜ Writes (cellBytes c) at r (now (buffer .entry)) (now (buffer .exit)) ⌝ }
 {
-    let next = number::write_number(buffer, at, cells::kind_of(c));
+    let next = number::write_number(buffer, at, written_kind(c));
     write_operands(buffer, next, c)
 }
 

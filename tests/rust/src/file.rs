@@ -1,4 +1,4 @@
-//! "Netlist file: I, O, cell count, then each cell's kind and operands."
+//! "Netlist file: I, O, cell count, then each cell's kind and operands", a gate as kind 7 with its truth table; kinds 3 to 5 are still read.
 
 use crate::netlist::{Cell, Netlist};
 use crate::sheet::{number_at, refuse, Checked, CELL, COUNT, EXTRA, KIND};
@@ -10,21 +10,30 @@ pub fn number(value: usize) -> Vec<u8> {
     vec![128 + (value % 128) as u8, (value / 128) as u8]
 }
 
-fn numbers(cell: &Cell) -> Vec<usize> {
+/// A cell's kind and operands, a gate's as they are written now or as they were.
+fn numbers(cell: &Cell, old: bool) -> Vec<usize> {
     match *cell {
+        Cell::Or(x, y) if old => vec![3, x, y],
+        Cell::And(x, y) if old => vec![4, x, y],
+        Cell::Butnot(x, y) if old => vec![5, x, y],
         Cell::Low => vec![0],
         Cell::High => vec![1],
         Cell::Input(s) => vec![2, s],
-        Cell::Or(x, y) => vec![3, x, y],
-        Cell::And(x, y) => vec![4, x, y],
-        Cell::Butnot(x, y) => vec![5, x, y],
+        Cell::Or(x, y) => vec![7, 14, x, y],
+        Cell::And(x, y) => vec![7, 8, x, y],
+        Cell::Butnot(x, y) => vec![7, 2, x, y],
         Cell::Register(x) => vec![6, x],
     }
 }
 
 pub fn write(netlist: &Netlist) -> Vec<u8> {
+    write_as(netlist, || false)
+}
+
+/// A file in which some gates are of the old kinds.
+pub fn write_as(netlist: &Netlist, mut old: impl FnMut() -> bool) -> Vec<u8> {
     let head = [netlist.inputs, netlist.outputs, netlist.cells.len()];
-    let all = head.into_iter().chain(netlist.cells.iter().flat_map(numbers));
+    let all = head.into_iter().chain(netlist.cells.iter().flat_map(|cell| numbers(cell, old())));
     all.flat_map(number).collect()
 }
 
@@ -47,7 +56,7 @@ impl Reader<'_> {
     fn kind(&mut self, cell: usize) -> Checked<usize> {
         let at = self.at;
         let kind = self.number()?;
-        if kind > 6 {
+        if kind > 7 {
             return refuse(KIND, at);
         }
         if kind == 6 && self.registers == 64 {
@@ -86,6 +95,11 @@ impl Reader<'_> {
             3 => Cell::Or(self.operand(any)?, self.operand(any)?),
             4 => Cell::And(self.operand(any)?, self.operand(any)?),
             5 => Cell::Butnot(self.operand(any)?, self.operand(any)?),
+            7 => match self.operand(|t| t == 14 || t == 8 || t == 2)? {
+                14 => Cell::Or(self.operand(any)?, self.operand(any)?),
+                8 => Cell::And(self.operand(any)?, self.operand(any)?),
+                _ => Cell::Butnot(self.operand(any)?, self.operand(any)?),
+            },
             _ => {
                 self.registers += 1;
                 Cell::Register(self.operand(any)?)

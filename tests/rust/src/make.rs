@@ -364,7 +364,12 @@ pub fn damaged(random: &mut Random, bytes: &[u8]) -> Vec<u8> {
 /// A cell of a netlist that nobody compiled: operands from below it, or from anywhere.
 fn put_cell(random: &mut Random, file: &mut Vec<u8>, cell: usize, count: usize, loose: usize, registers: usize) {
     let kind = if random.percent(registers) { 6 } else { random.between(3, 5) };
-    file.extend(number(kind));
+    match kind {
+        6 => file.push(6),
+        old if random.percent(30) => file.push(old as u8),
+        _ if random.percent(loose) => file.extend([7, random.below(16) as u8]),
+        gate => file.extend([7, [14, 8, 2][gate - 3]]),
+    }
     for _ in 0..if kind == 6 { 1 } else { 2 } {
         let any = kind == 6 || random.percent(loose);
         let x = if any { random.below(count) } else { random.below(cell) };

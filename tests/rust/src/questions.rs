@@ -93,8 +93,9 @@ impl Questions {
         let Some((sheet, p)) = self.accepted() else {
             return;
         };
-        let file = file::write(&p.netlist);
-        self.about_sheet(&sheet, file.len());
+        self.about_sheet(&sheet, file::write(&p.netlist).len());
+        let old = [0, 0, 30, 100][self.random.below(4)];
+        let file = file::write_as(&p.netlist, || self.random.percent(old));
         let (sheet_hex, file_hex) = (self.hex(&sheet), self.hex(&file));
         let mut state = 0;
         for _ in 0..self.random.between(2, 10) {

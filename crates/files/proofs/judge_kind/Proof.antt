@@ -9,14 +9,14 @@ use Rattle.files.proofs.judge_kind.Tie as tie
 
 returns : tie.Need-returns
 unfolding judgeKind pick
-returns c = simp (lt-ltb 6 _ (c .if1 .taken))
+returns c = simp (lt-ltb _ _ (c .if1 .taken))
 
 one-too-many-requires : tie.Need-one-too-many-requires
 one-too-many-requires c κs = search needs
 
 returns-2 : tie.Need-returns-2
 unfolding judgeKind pick
-returns-2 c = simp (le-ltb 6 _ (c .before .before .if1 .left), sym (c .before .one-too-many .ensures) ∙ c .if2 .taken)
+returns-2 c = simp (le-ltb _ _ (c .before .before .if1 .left), sym (c .before .one-too-many .ensures) ∙ c .if2 .taken)
 
 kind-fits-requires : tie.Need-kind-fits-requires
 kind-fits-requires c κs = search needs
@@ -30,7 +30,7 @@ returns-3 c =
     let at-if1 = at-one-too-many .before in
     let room = sym (at-one-too-many .one-too-many .ensures) ∙ at-if2 .if2 .left in
     let fits = sym (at-kind-fits .kind-fits .ensures) ∙ c .if3 .taken in
-    simp (le-ltb 6 _ (at-if1 .if1 .left), room, fits)
+    simp (le-ltb _ _ (at-if1 .if1 .left), room, fits)
 
 returns-4 : tie.Need-returns-4
 unfolding judgeKind pick
@@ -41,7 +41,7 @@ returns-4 c =
     let at-if1 = at-one-too-many .before in
     let room = sym (at-one-too-many .one-too-many .ensures) ∙ at-if2 .if2 .left in
     let differs = sym (at-kind-fits .kind-fits .ensures) ∙ c .if3 .left in
-    simp (le-ltb 6 _ (at-if1 .if1 .left), room, differs)
+    simp (le-ltb _ _ (at-if1 .if1 .left), room, differs)
 
 pub judge-kind-spec : {M : Type 1} → statement M
 judge-kind-spec =

@@ -14,24 +14,26 @@ enum-known-f c = search needs
 enum-known-x : tie.Need-enum-known-x
 enum-known-x c = search needs
 
-gate-in-requires : tie.Need-gate-in-requires
-gate-in-requires c κs = search needs
-
 returns : tie.Need-returns
 unfolding gateOf
 returns c =
-    let pair = sym (c .before .before .before .read-pair .ensures) ∙ c .before .f .given .1 in
+    let at-read-pair = c .before .before .before in
+    let pair = sym (at-read-pair .read-pair .ensures) ∙ c .before .f .given .1 in
     simp pair
 
 returns-2 : tie.Need-returns-2
 unfolding gateOf
 returns-2 c =
-    let at-x = c .before .before in
-    let at-read-pair = at-x .before .before in
-    let pair = sym (at-read-pair .read-pair .ensures) ∙ at-x .x .given .1 in
-    simp (pair, c .gate-in .ensures)
+    let at-read-pair = c .before .before .before in
+    let pair = sym (at-read-pair .read-pair .ensures) ∙ c .before .x .given .1 in
+    simp pair
 
 pub read-gate-spec : {M : Type 1} → statement M
 read-gate-spec =
     tie.close
-    (tie.spec read-pair-requires enum-known-f enum-known-x gate-in-requires returns returns-2)
+    (tie.spec
+    read-pair-requires
+    enum-known-f
+    enum-known-x
+    returns
+    returns-2)

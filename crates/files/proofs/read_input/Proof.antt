@@ -58,17 +58,21 @@ returns-2 c =
     let right = input-right (start .args .x) (start .args .at) v (at-r .r .given .0 .1 .0) before-it in
     simp (number, c .new .ensures, whole, right)
 
+wrong-cell-requires : tie.Need-wrong-cell-requires
+wrong-cell-requires c κs = search needs
+
 returns-3 : tie.Need-returns-3
 returns-3 c =
-    let at-number = c .before in
+    let at-if1 = c .before in
+    let at-number = at-if1 .before in
     let at-r = at-number .before .before in
     let at-read-number = at-r .before .before in
     let start = at-read-number .before .before in
     let number = sym (at-read-number .read-number .ensures) ∙ at-r .r .given .1 in
     let value = at-r .r .given .0 in
-    let differs = rw (at-number .number .ensures) at (c .if1 .left) in
+    let differs = rw (at-number .number .ensures) at (at-if1 .if1 .left) in
     let wrong = input-wrong (start .args .x) (start .args .at) (value .0) (value .1 .0) differs in
-    simp (number, wrong)
+    c .wrong-cell .ensures ∙ simp (number, wrong)
 
 pub read-input-spec : {M : Type 1} → statement M
 read-input-spec =
@@ -85,4 +89,5 @@ read-input-spec =
     cast-new
     new-requires
     returns-2
+    wrong-cell-requires
     returns-3)

@@ -13,6 +13,12 @@ read-input-requires c κs = search needs
 read-register-requires : tie.Need-read-register-requires
 read-register-requires c κs = search needs
 
+read-table-requires : tie.Need-read-table-requires
+read-table-requires c κs = search needs
+
+gate-in-requires : tie.Need-gate-in-requires
+gate-in-requires c κs = search needs
+
 read-gate-requires : tie.Need-read-gate-requires
 read-gate-requires c κs = search needs
 
@@ -33,9 +39,15 @@ unfolding operandsAt pick
 returns-4 c = c .read-register .ensures ∙ simp (c .before .match .keys4)
 
 returns-5 : tie.Need-returns-5
-returns-5 c =
-    let other = c .before .match .rest in
-    c .read-gate .ensures ∙ sym (gate-operands _ _ _ _ _ (other .0 .0 .0 .1) (other .0 .0 .1) (other .0 .1) (other .1))
+unfolding operandsAt pick
+returns-5 c = c .read-table .ensures ∙ simp (c .before .match .keys5)
+
+returns-6 : tie.Need-returns-6
+returns-6 c =
+    let at-match = c .before .before in
+    let other = at-match .match .rest in
+    let gate = rw (c .before .gate-in .ensures) at (c .read-gate .ensures) in
+    gate ∙ sym (gate-operands _ _ _ _ _ (other .0 .0 .0 .0 .1) (other .0 .0 .0 .1) (other .0 .0 .1) (other .0 .1) (other .1))
 
 pub read-operands-spec : {M : Type 1} → statement M
 read-operands-spec =
@@ -43,9 +55,12 @@ read-operands-spec =
     (tie.spec
     read-input-requires
     read-register-requires
+    read-table-requires
+    gate-in-requires
     read-gate-requires
     returns
     returns-2
     returns-3
     returns-4
-    returns-5)
+    returns-5
+    returns-6)

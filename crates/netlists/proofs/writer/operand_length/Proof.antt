@@ -1,5 +1,10 @@
 -- Each arm is the case of the definition.
-use lib.ListN.{length-append}
+use Prim.Native.Nat.{ℕ, _+_}
+use mathlib.Core.Path.{sym, ap, _∙_}
+use native.Mathlib.Omega.{arith}
+use Rattle.number.specs.Counts.{ofCell}
+use Rattle.number.proofs.Laws.{length-at-most}
+use Rattle.netlists.proofs.Laying.{gate-length}
 use borrow.Author.Needs.{needs}
 use Rattle.netlists.proofs.writer.operand_length.Statement.{statement}
 use Rattle.netlists.proofs.writer.operand_length.Tie as tie
@@ -28,6 +33,11 @@ enum-known-c-2 c = search needs
 pair-length-requires : tie.Need-pair-length-requires
 pair-length-requires c κs = search needs
 
+add-result : tie.Need-add-result
+add-result c =
+    let gate = c .before .before .c2 .given .0 in
+    omega (arith, c .pair-length .ensures, length-at-most (ofCell (gate .1 .0)), length-at-most (ofCell (gate .1 .1 .0)))
+
 enum-known-c-3 : tie.Need-enum-known-c-3
 enum-known-c-3 c = search needs
 
@@ -50,7 +60,10 @@ returns-3 : tie.Need-returns-3
 returns-3 c = rw (c .before .before .before .c .given .1) (rw (c .before .number .ensures) at (c .number-length .ensures))
 
 returns-4 : tie.Need-returns-4
-returns-4 c = rw (c .before .before .c2 .given .1) (simp length-append (c .pair-length .ensures))
+returns-4 c =
+    let at-c2 = c .before .before in
+    let gate = at-c2 .c2 .given .0 in
+    rw (at-c2 .c2 .given .1) (ap (λ (k : ℕ). 1 + k) (c .pair-length .ensures) ∙ sym (gate-length (gate .0) (gate .1 .0) (gate .1 .1 .0)))
 
 returns-5 : tie.Need-returns-5
 returns-5 c = rw (c .before .before .before .c3 .given .1) (rw (c .before .number2 .ensures) at (c .number-length2 .ensures))
@@ -67,6 +80,7 @@ operand-length-spec =
     number-length-requires
     enum-known-c-2
     pair-length-requires
+    add-result
     enum-known-c-3
     number-requires-2
     cast-number-length-2

@@ -5,8 +5,8 @@ use borrow.Author.Needs.{needs}
 use Rattle.netlists.proofs.writer.write_cell.Statement.{statement}
 use Rattle.netlists.proofs.writer.write_cell.Tie as tie
 
-kind-of-requires : tie.Need-kind-of-requires
-kind-of-requires c κs = search needs
+written-kind-requires : tie.Need-written-kind-requires
+written-kind-requires c κs = search needs
 
 write-number-requires : tie.Need-write-number-requires
 write-number-requires c κs = search needs
@@ -14,11 +14,11 @@ write-number-requires c κs = search needs
 write-operands-requires : tie.Need-write-operands-requires
 write-operands-requires c κs =
     let at-write-number = c .before .before .before in
-    let at-kind-of = at-write-number .before in
-    let start = at-kind-of .before .before .before in
+    let at-written-kind = at-write-number .before in
+    let start = at-written-kind .before .before .before in
     let pre = start .pre in
     let cell = start .args .c in
-    let kind = kind-writes cell (pre .1) (rw (at-kind-of .kind-of .ensures) at (at-write-number .write-number .ensures)) in
+    let kind = kind-writes cell (pre .1) (rw (at-written-kind .written-kind .ensures) at (at-write-number .write-number .ensures)) in
     (pre .0, still-room (operandBytes cell) kind (pre .1))
 
 same-length : tie.Need-same-length
@@ -28,14 +28,14 @@ returns : tie.Need-returns
 returns c =
     let at-write-operands = c .before .before in
     let at-write-number = at-write-operands .before .before .before .before in
-    let at-kind-of = at-write-number .before in
-    let start = at-kind-of .before .before .before in
+    let at-written-kind = at-write-number .before in
+    let start = at-written-kind .before .before .before in
     let pre = start .pre in
     let cell = start .args .c in
-    let kind = kind-writes cell (pre .1) (rw (at-kind-of .kind-of .ensures) at (at-write-number .write-number .ensures)) in
+    let kind = kind-writes cell (pre .1) (rw (at-written-kind .written-kind .ensures) at (at-write-number .write-number .ensures)) in
     writes-more kind (at-write-operands .write-operands .ensures)
 
 pub write-cell-spec : {M : Type 1} → statement M
 write-cell-spec =
     tie.close
-    (tie.spec kind-of-requires write-number-requires write-operands-requires same-length returns)
+    (tie.spec written-kind-requires write-number-requires write-operands-requires same-length returns)

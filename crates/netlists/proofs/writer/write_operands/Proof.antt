@@ -25,8 +25,8 @@ write-number-requires c κs = search needs
 enum-known-c-2 : tie.Need-enum-known-c-2
 enum-known-c-2 c = search needs
 
-write-pair-requires : tie.Need-write-pair-requires
-write-pair-requires c κs =
+write-gate-requires : tie.Need-write-gate-requires
+write-gate-requires c κs =
     let at-c2 = c .before .before in
     let start = at-c2 .before .before .before in
     rw (at-c2 .c2 .given .1) at (start .pre)
@@ -67,9 +67,9 @@ same-length-2 c = search needs
 
 returns-4 : tie.Need-returns-4
 returns-4 c =
-    let at-write-pair = c .before .before in
-    let at-c2 = at-write-pair .before .before .before in
-    rw (at-c2 .c2 .given .1) (at-write-pair .write-pair .ensures)
+    let at-write-gate = c .before .before in
+    let at-c2 = at-write-gate .before .before .before in
+    rw (at-c2 .c2 .given .1) (at-write-gate .write-gate .ensures)
 
 same-length-3 : tie.Need-same-length-3
 same-length-3 c = search needs
@@ -95,7 +95,7 @@ write-operands-spec =
     cast-write-number
     write-number-requires
     enum-known-c-2
-    write-pair-requires
+    write-gate-requires
     enum-known-c-3
     number-requires-2
     cast-write-number-2
