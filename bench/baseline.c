@@ -289,7 +289,7 @@ static int first_twice(const struct program *p, unsigned n, unsigned f)
         return t->r & f ? (int)n : first_twice(p, n + 1, f);
     case SEQUENCE:
         found = first_twice(p, n + 1, b->k & f ? f | 1 : f & ~1u);
-        return found >= 0 ? found : first_twice(p, t->second, f);
+        return found >= 0 ? found : first_twice(p, t->second, a->k & 1 ? f : 0);
     case PRESENT:
         found = first_twice(p, n + 1, f);
         return found >= 0 ? found : first_twice(p, t->second, f);

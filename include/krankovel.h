@@ -25,7 +25,8 @@
       7  EXIT     a level that is not 2..1+d, d being the traps around                         the same
       8  EXTRA    bytes are left over                                                          offset of the first one
       9  INSTANT  a loop's body may end in the instant it starts                               the first such loop's statement number
-     10  TWICE    a parallel or a signal may live twice in an instant                          the first such one's statement number
+     10  TWICE    a loop may start a parallel or a signal again in the instant in which it     the first such one's statement number
+                  ends, with no wait before it
      11  ROOM     over 1,024 cells                                                             0
      12  CYCLE    a cycle through cells other than registers                                   the lowest cell on one
      13  EVENT    an event with a bit outside 1..I                                             0

@@ -12,13 +12,12 @@ use Rattle.builder.specs.Netlist.{sheetNetlist}
 use Rattle.order.specs.Paths.{Ordered}
 use Rattle.compiler.specs.Check.{Accepted, accepted}
 use Rattle.compiler.proofs.Passing.{judged-read}
-use Rattle.agreement.proofs.Sound.{NoTwice}
-use Rattle.agreement.proofs.Checks.{no-twice}
+use Rattle.agreement.proofs.Restarts.{NoRestart, no-restart}
 
 pub record Admitted (w : Sheet) : Type 0 where
   pub proper : Proper (w .inputs) (w .outputs) (w .root)
   pub no-instant : instant (stmtNo 0) (w .root) ≡ Clear
-  pub no-twice : NoTwice (w .root)
+  pub no-twice : NoRestart (w .root)
   pub order : List ℕ
   pub ordered : Ordered (sheetNetlist w) order
 
@@ -28,7 +27,7 @@ admitted {s} {w} (accepted order e o) =
     record {
       proper = proper s w (r .read);
       no-instant = r .passes .no-instant;
-      no-twice = no-twice (stmtNo 0) (w .root) (r .passes .no-twice);
+      no-twice = no-restart (stmtNo 0) (w .root) (r .passes .no-twice);
       order = order;
       ordered = o;
     }

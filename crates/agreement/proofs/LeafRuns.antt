@@ -11,7 +11,8 @@ use Rattle.sheet.specs.Read.{only}
 use Rattle.sets.specs.Codes.{Codes, same}
 use Rattle.sets.specs.Static.{K}
 use Rattle.rules.specs.Rules.{Signals, Halts, onlyHalt, start, active, resume}
-use Rattle.agreement.proofs.Sound.{C, Par}
+use Rattle.agreement.proofs.Restarts.{Redo}
+use Rattle.agreement.proofs.Sound.{Par}
 use Rattle.agreement.proofs.Runs.{live, Runs}
 
 leaf-live : (γ ρ a b : Bool) → (γ && a) ≡ live γ (ρ && false) a b
@@ -34,7 +35,7 @@ module _ (E : Signals) (H : Halts) (γ ρ : Bool) (P : Codes) (M : Signals) (W :
   Unhalted = (h : HaltNo) → W h ≡ false
 
   pub nothing-runs : ((j : ℕ) → P j ≡ (γ && same 0 j)) → Silent → Unhalted → Runs E H (leaf Nothing) γ ρ P M W
-  unfolding start resume active K C Par
+  unfolding start resume active K Redo Par
   nothing-runs cs es hs =
       record {
         codes = λ ok j. rw (cs j) (leaf-live γ ρ (same 0 j) (same 0 j));
@@ -45,7 +46,7 @@ module _ (E : Signals) (H : Halts) (γ ρ : Bool) (P : Codes) (M : Signals) (W :
 
   pub emit-runs : (x : SignalNo) → ((j : ℕ) → P j ≡ (γ && same 0 j)) → ((s : SignalNo) → M s ≡ (γ && only x s)) → Unhalted
       → Runs E H (leaf (Emit x)) γ ρ P M W
-  unfolding start resume active K C Par
+  unfolding start resume active K Redo Par
   emit-runs x cs es hs =
       record {
         codes = λ ok j. rw (cs j) (leaf-live γ ρ (same 0 j) (same 0 j));
@@ -55,7 +56,7 @@ module _ (E : Signals) (H : Halts) (γ ρ : Bool) (P : Codes) (M : Signals) (W :
       }
 
   pub exit-runs : (k : ℕ) → ((j : ℕ) → P j ≡ (γ && same k j)) → Silent → Unhalted → Runs E H (leaf (Exit k)) γ ρ P M W
-  unfolding start resume active K C Par
+  unfolding start resume active K Redo Par
   exit-runs k cs es hs =
       record {
         codes = λ ok j. rw (cs j) (leaf-live γ ρ (same k j) (same 0 j));
@@ -66,7 +67,7 @@ module _ (E : Signals) (H : Halts) (γ ρ : Bool) (P : Codes) (M : Signals) (W :
 
   pub halt-runs : (k : HaltNo) → ((j : ℕ) → P j ≡ ((γ || (ρ && H k)) && same 1 j)) → Silent
       → ((h : HaltNo) → W h ≡ ((γ || (ρ && H k)) && onlyHalt k h)) → Runs E H (leaf (Halt k)) γ ρ P M W
-  unfolding start resume active K C Par
+  unfolding start resume active K Redo Par
   halt-runs k cs es hs =
       record {
         codes = λ ok j. rw (cs j) (halt-live γ ρ (H k) (same 1 j));

@@ -1,5 +1,5 @@
+pub mod Restarts
 pub mod Sound
-pub mod Checks
 pub mod Runs
 pub mod LeafRuns
 pub mod LoopRuns

@@ -11,7 +11,8 @@ use Rattle.sets.specs.Codes.{Codes, same, less0}
 use Rattle.sets.specs.Static.{K}
 use Rattle.rules.specs.Rules.{Signals, Halts, Outcome, followed, start, active, resume}
 use Rattle.rules.proofs.Halting.{resume-halting}
-use Rattle.agreement.proofs.Sound.{C, Par, Sound}
+use Rattle.agreement.proofs.Restarts.{Redo}
+use Rattle.agreement.proofs.Sound.{Par, Sound}
 use Rattle.agreement.proofs.Runs.{live, Runs, start-code-in, followed-code, followed-emits, followed-halts}
 
 no-end : (u x k c : Bool) → ((u && x) && not (k || c)) ≡ false → k ≡ false → c ≡ false → (u && x) ≡ false
@@ -33,7 +34,7 @@ low-both : (u y : Bool) → ((u && false) && y) ≡ false
 low-both = taut 2 0 _ _ _ tt
 
 module _ (E : Signals) (H : Halts) (p : Stmt) (γ g ρ : Bool) (Pp P : Codes) (M : Signals) (W : Halts) (sp : Sound H p)
-    (k0 : K p 0 ≡ false) (c0 : C p 0 ≡ false) (rp : Runs E H p g ρ Pp M W)
+    (k0 : K p 0 ≡ false) (c0 : Redo p 0 ≡ false) (rp : Runs E H p g ρ Pp M W)
     (feed : g ≡ (γ || Pp 0)) (at0 : P 0 ≡ false) (ats : (j : ℕ) → P (suc j) ≡ Pp (suc j)) where
   -- started and resumed
   abbrev a : Outcome
@@ -49,7 +50,7 @@ module _ (E : Signals) (H : Halts) (p : Stmt) (γ g ρ : Bool) (Pp P : Codes) (M
   r = ρ && active H p
 
   goes : (γ && u) ≡ false → (g && u) ≡ false
-  goes ok = own-go γ g (Pp 0) u ok (no-end u (Pp 0) (K p 0) (C p 0) (rp .both 0) k0 c0) feed
+  goes ok = own-go γ g (Pp 0) u ok (no-end u (Pp 0) (K p 0) (Redo p 0) (rp .both 0) k0 c0) feed
 
   start-goes-on : same (a .code) 0 ≡ false
   start-goes-on = not-in (same (a .code) 0) (K p 0) (start-code-in E H p sp 0) k0
@@ -71,10 +72,10 @@ module _ (E : Signals) (H : Halts) (p : Stmt) (γ g ρ : Bool) (Pp P : Codes) (M
       rw (rp .halts (goes ok) h, followed-halts c a (resume-halting (sp .traps) E H p (sp .exits)) h)
       (loop-live γ g (Pp 0) r (same (a .code) 0) (same (c .code) 0) (a .halts h) (c .halts h) feed (rp .codes (goes ok) 0) start-goes-on)
 
-  loop-both : (j : ℕ) → ((u && P j) && not (less0 (K p) j || less0 (C p) j)) ≡ false
+  loop-both : (j : ℕ) → ((u && P j) && not (less0 (K p) j || Redo p j)) ≡ false
   loop-both zero = rw at0 (low-both u _)
   loop-both (suc j) = rw (ats j) (rp .both (suc j))
 
   pub loop-runs : Runs E H (one Loop p) γ ρ P M W
-  unfolding start resume active K C Par
+  unfolding start resume active K Redo Par
   loop-runs = record { codes = loop-codes; emits = loop-emits; halts = loop-halts; both = loop-both }

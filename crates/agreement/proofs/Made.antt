@@ -32,7 +32,7 @@ use Rattle.builder.specs.Netlist.{inputCells, signalCells, netlist}
 use Rattle.builder.proofs.Ends.{length-inputs, length-signals}
 use Rattle.builder.proofs.Format.{root, input-at, boot-split}
 use Rattle.agreement.specs.Rounds.{renewed}
-use Rattle.agreement.proofs.Sound.{NoTwice}
+use Rattle.agreement.proofs.Restarts.{NoRestart}
 use Rattle.agreement.proofs.Root.{Asked, emitted}
 
 -- Where the signals' cells stand.
@@ -78,7 +78,7 @@ module _ {I O : ℕ} {t : Stmt} (proper : Proper I O t) where
       off ((react E S t) .emits s)
       (λ on. let own = react-emits I (1 + I + (O + localCount t)) E S t scoped s on in outside (own .0) (own .1))
 
-module _ {I O : ℕ} {t : Stmt} (proper : Proper I O t) (clear : instant (stmtNo 0) t ≡ Clear) (once : NoTwice t)
+module _ {I O : ℕ} {t : Stmt} (proper : Proper I O t) (clear : instant (stmtNo 0) t ≡ Clear) (once : NoRestart t)
     (J : Signals) (event : Event I J) (S : State) (fit : fits S t ≡ true) where
   abbrev U : ℕ
   U = O + localCount t

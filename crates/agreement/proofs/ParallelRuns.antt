@@ -12,7 +12,8 @@ use Rattle.sets.specs.Codes.{Codes, same, join, larger}
 use Rattle.sets.specs.Static.{K, R}
 use Rattle.rules.specs.Rules.{Signals, Halts, Outcome, idle, kept, start, active, resume}
 use Rattle.rules.proofs.Codes.{resume-in-R}
-use Rattle.agreement.proofs.Sound.{C, Par, Sound}
+use Rattle.agreement.proofs.Restarts.{Redo}
+use Rattle.agreement.proofs.Sound.{Par, Sound}
 use Rattle.agreement.proofs.Runs.{live, Runs, par-active, same-in, start-code-in, choose, pick-emits, pick-halts}
 
 -- a is at least j
@@ -289,5 +290,5 @@ module _ (E : Signals) (H : Halts) (p q : Stmt) (γ ρ : Bool) (Pp Pq X P : Code
   parallel-both j = rw (at j) (kept-both (ρ && (hp || hq)) (K t j) (R t j) ((Pp j || Pq j) && not (X j)))
 
   pub parallel-runs : Runs E H (two Parallel p q) γ ρ P M W
-  unfolding start resume active C Par
+  unfolding start resume active Redo Par
   parallel-runs = record { codes = parallel-codes γ refl; emits = parallel-emits; halts = parallel-halts γ refl; both = parallel-both }

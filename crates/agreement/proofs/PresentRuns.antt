@@ -12,7 +12,8 @@ use Rattle.sets.specs.Codes.{Codes, same}
 use Rattle.sets.specs.Static.{K}
 use Rattle.rules.specs.Rules.{Signals, Halts, Outcome, start, active, resume}
 use Rattle.rules.proofs.Again.{swap}
-use Rattle.agreement.proofs.Sound.{C, Par, Sound}
+use Rattle.agreement.proofs.Restarts.{Redo}
+use Rattle.agreement.proofs.Sound.{Par, Sound}
 use Rattle.agreement.proofs.Runs.{live, Runs, par-active, started, choose, pick-code, pick-emits, pick-halts}
 
 left-ok : (γ ρ e a b : Bool) → (γ && (ρ && (a || b))) ≡ false → ((γ && e) && (ρ && a)) ≡ false
@@ -87,19 +88,19 @@ module _ (E : Signals) (H : Halts) (s : SignalNo) (p q : Stmt) (γ ρ : Bool) (P
       rw (hm h, rp .halts (ok-p ok) h, rq .halts (ok-q ok) h, pick-halts (E s) a b h, pick-halts hp c d h)
       (joined-live γ ρ (E s) hp hq (a .halts h) (b .halts h) (c .halts h) (d .halts h) side)
 
-  from-p : (j : ℕ) → (((ρ && (up || uq)) && Pp j) && not (K p j || C p j)) ≡ false
+  from-p : (j : ℕ) → (((ρ && (up || uq)) && Pp j) && not (K p j || Redo p j)) ≡ false
   from-p j =
-      side-both ρ up uq hp hq (Pp j) (K p j) (C p j) (γ && E s) (par-active E H p) (par-active E H q) side
+      side-both ρ up uq hp hq (Pp j) (K p j) (Redo p j) (γ && E s) (par-active E H p) (par-active E H q) side
       (rp .both j) (started E H p (γ && E s) ρ Pp Mp Wp sp rp j)
 
-  from-q : (j : ℕ) → (((ρ && (uq || up)) && Pq j) && not (K q j || C q j)) ≡ false
+  from-q : (j : ℕ) → (((ρ && (uq || up)) && Pq j) && not (K q j || Redo q j)) ≡ false
   from-q j =
-      side-both ρ uq up hq hp (Pq j) (K q j) (C q j) (γ && not (E s)) (par-active E H q) (par-active E H p) (swap hp hq side)
+      side-both ρ uq up hq hp (Pq j) (K q j) (Redo q j) (γ && not (E s)) (par-active E H q) (par-active E H p) (swap hp hq side)
       (rq .both j) (started E H q (γ && not (E s)) ρ Pq Mq Wq sq rq j)
 
-  present-both : (j : ℕ) → (((ρ && (up || uq)) && P j) && not ((K p j || K q j) || (C p j || C q j))) ≡ false
-  present-both j = rw (at j) (joined-both ρ up uq (Pp j) (Pq j) (K p j) (K q j) (C p j) (C q j) (from-p j) (from-q j))
+  present-both : (j : ℕ) → (((ρ && (up || uq)) && P j) && not ((K p j || K q j) || (Redo p j || Redo q j))) ≡ false
+  present-both j = rw (at j) (joined-both ρ up uq (Pp j) (Pq j) (K p j) (K q j) (Redo p j) (Redo q j) (from-p j) (from-q j))
 
   pub present-runs : Runs E H (two (Present s) p q) γ ρ P M W
-  unfolding start resume active K C Par
+  unfolding start resume active K Redo Par
   present-runs = record { codes = present-codes; emits = present-emits; halts = present-halts; both = present-both }

@@ -32,7 +32,8 @@ use Rattle.gates.specs.Rows.{code, withCode0, NewRow, orRow, trapRow, pairs, Ne
 use Rattle.gates.proofs.OrRow.{with-code0-at, trap-at}
 use Rattle.parts.specs.Equations.{Built, listOf, past, given, buildExit, buildEmit, buildHalt, buildSequence, buildLoop, buildPresent, buildWatching}
 use Rattle.parts.specs.Equations.{buildParallel, buildTrap}
-use Rattle.agreement.proofs.Sound.{NoTwice, Sound, sound-one, sound-left, sound-right, sequence-side, present-side}
+use Rattle.agreement.proofs.Restarts.{NoRestart}
+use Rattle.agreement.proofs.Sound.{Sound, sound-one, sound-left, sound-right, sequence-side, present-side}
 use Rattle.agreement.proofs.Runs.{Runs, either-within}
 use Rattle.agreement.proofs.LeafRuns.{nothing-runs, emit-runs, exit-runs, halt-runs}
 use Rattle.agreement.proofs.LoopRuns.{loop-runs}
@@ -306,7 +307,7 @@ module _ (cells : List Cell) (J : Signals) (S : State) (v : CellNo → Bool) (ze
   -- One part.
   module _ (p : Stmt) (n : ℕ) (g r i : CellNo) (L : List CellNo) (a : Built) where
     pub loop-right : Sound H (one Loop p) → Right p (cellNo n) r i L a → At n ((buildLoop g a) .cells) → Right (one Loop p) g r i L (buildLoop g a)
-    unfolding buildLoop active inHalts Solved NoInstant NoTwice
+    unfolding buildLoop active inHalts Solved NoInstant NoRestart
     loop-right w rp h =
         record {
           sel = rp .sel;

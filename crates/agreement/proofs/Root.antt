@@ -37,7 +37,8 @@ use Rattle.builder.specs.Netlist.{noLists, inputCells, signalCells, rootOf, net
 use Rattle.builder.proofs.Ends.{length-inputs, length-signals}
 use Rattle.builder.proofs.Places.{built}
 use Rattle.builder.proofs.Format.{root, boot-split, boot-register, netlist-registers, rootTakes}
-use Rattle.agreement.proofs.Sound.{NoTwice, Par, Sound}
+use Rattle.agreement.proofs.Restarts.{NoRestart}
+use Rattle.agreement.proofs.Sound.{Par, Sound}
 use Rattle.agreement.proofs.Runs.{live, choose, par-active, pick-emits, pick-halts}
 use Rattle.agreement.proofs.Nets.{Solved}
 use Rattle.agreement.proofs.Right.{Right}
@@ -54,7 +55,7 @@ no-halt-past t numbered E S h l = off ((react E S t) .halts (haltNo h)) (λ on. 
     past k = omega (arith, k .1)
 
 -- A state that fits, of a sheet that was read and has neither INSTANT nor TWICE.
-module _ {I O : ℕ} {t : Stmt} (proper : Proper I O t) (clear : instant (stmtNo 0) t ≡ Clear) (once : NoTwice t)
+module _ {I O : ℕ} {t : Stmt} (proper : Proper I O t) (clear : instant (stmtNo 0) t ≡ Clear) (once : NoRestart t)
     (S : State) (fit : fits S t ≡ true) where
   unbooted : S boot ≡ false → noHaltsFrom 0 S ≡ true
   unfolding fits pick
@@ -116,7 +117,7 @@ not-both false h u f o = off h u (f refl) o
     off : (h u : Bool) → h ≡ false → (u && not h) ≡ false → u ≡ false
     off = taut 2 2 _ _ _ tt
 
-module _ {I O : ℕ} {t : Stmt} (proper : Proper I O t) (clear : instant (stmtNo 0) t ≡ Clear) (once : NoTwice t)
+module _ {I O : ℕ} {t : Stmt} (proper : Proper I O t) (clear : instant (stmtNo 0) t ≡ Clear) (once : NoRestart t)
     (J : Signals) (S : State) (fit : fits S t ≡ true) (v : CellNo → Bool)
     (zero-low : v low ≡ false) (tick-on : v high ≡ true)
     (solves : (x : CellNo) → 2 + I + (O + localCount t) ≤ ofCell x → Asked (netlist I (O + localCount t) t) J S v x) where

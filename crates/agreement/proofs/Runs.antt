@@ -14,7 +14,8 @@ use Rattle.sets.specs.Static.{K}
 use Rattle.rules.specs.Rules.{Signals, Halts, Outcome, thenOn, followed, start, active, resume}
 use Rattle.rules.proofs.Codes.{start-in-K}
 use Rattle.rules.proofs.Halting.{HaltsWithOne}
-use Rattle.agreement.proofs.Sound.{C, Par, Sound}
+use Rattle.agreement.proofs.Restarts.{Redo}
+use Rattle.agreement.proofs.Sound.{Par, Sound}
 
 -- a started run that gives a, a resumed one that gives b
 abbrev pub live : Bool → Bool → Bool → Bool → Bool
@@ -22,14 +23,14 @@ live γ ρ a b = (γ && a) || (ρ && b)
 
 -- What is claimed of a statement with go γ and resume ρ: its code nets are P, it sends the signals M and would keep the halts W. It may be started and
 -- resumed in one clock, where a loop goes round; then both runs show, or'ed, as long as no parallel is started that is resumed too (`Par`). A loop
--- makes no such go: while such a parallel is resumed, whatever go comes, only codes of K and C show (`both`), and INSTANT and TWICE say that 0 is none
+-- makes no such go: while such a parallel is resumed, whatever go comes, only codes of K and Redo show (`both`), and INSTANT and TWICE say that 0 is none
 -- of these.
 pub record Runs (E : Signals) (H : Halts) (t : Stmt) (γ ρ : Bool) (P : Codes) (M : Signals) (W : Halts) : Type 0 where
   pub codes : (γ && (ρ && Par E H t)) ≡ false → (j : ℕ)
       → P j ≡ live γ (ρ && active H t) (same ((start E t) .code) j) (same ((resume E H t) .code) j)
   pub emits : (γ && (ρ && Par E H t)) ≡ false → (s : SignalNo) → M s ≡ live γ (ρ && active H t) ((start E t) .emits s) ((resume E H t) .emits s)
   pub halts : (γ && (ρ && Par E H t)) ≡ false → (h : HaltNo) → W h ≡ live γ (ρ && active H t) ((start E t) .halts h) ((resume E H t) .halts h)
-  pub both : (j : ℕ) → (((ρ && Par E H t) && P j) && not (K t j || C t j)) ≡ false
+  pub both : (j : ℕ) → (((ρ && Par E H t) && P j) && not (K t j || Redo t j)) ≡ false
 
 -- where one of those parallels is resumed there are halts
 pub either-within : (a b c d : Bool) → (a && not c) ≡ false → (b && not d) ≡ false → ((a || b) && not (c || d)) ≡ false

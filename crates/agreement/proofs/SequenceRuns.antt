@@ -12,7 +12,8 @@ use Rattle.sets.specs.Codes.{Codes, same, replaced}
 use Rattle.sets.specs.Static.{K}
 use Rattle.rules.specs.Rules.{Signals, Halts, Outcome, followed, start, active, resume}
 use Rattle.rules.proofs.Halting.{start-halting, resume-halting}
-use Rattle.agreement.proofs.Sound.{C, Par, Sound}
+use Rattle.agreement.proofs.Restarts.{Redo}
+use Rattle.agreement.proofs.Sound.{Par, Sound}
 use Rattle.agreement.proofs.Runs.{live, Runs, par-active, started, start-code-in, choose}
 use Rattle.agreement.proofs.Runs.{followed-code, followed-emits, followed-halts, pick-code, pick-emits, pick-halts}
 
@@ -133,24 +134,24 @@ module _ (E : Signals) (H : Halts) (p q : Stmt) (γ ρ : Bool) (Pp Pq P : Codes)
       )
       (joined-live γ ρ hp hq (same (a .code) 0) (a .halts h) (b .halts h) (same (c .code) 0) (c .halts h) (d .halts h) side)
 
-  from-q : (j : ℕ) → (((ρ && (up || (K p 0 && uq))) && Pq j) && not ((K p 0 && K q j) || ((C p 0 && K q j) || (K p 0 && C q j)))) ≡ false
+  from-q : (j : ℕ) → (((ρ && (up || (K p 0 && uq))) && Pq j) && not ((K p 0 && K q j) || ((Redo p 0 && K q j) || (K p 0 && Redo q j)))) ≡ false
   from-q j =
-      right-both ρ up uq hp hq (Pp 0) (Pq j) (K p 0) (K q j) (C p 0) (C q j) (par-active E H p) (par-active E H q) side
+      right-both ρ up uq hp hq (Pp 0) (Pq j) (K p 0) (K q j) (Redo p 0) (Redo q j) (par-active E H p) (par-active E H q) side
       (rp .both 0) (started E H q (Pp 0) ρ Pq Mq Wq sq rq j) (rq .both j)
 
-  from-p : (j : ℕ) → (((ρ && (up || (K p 0 && uq))) && Pp j) && not (K p j || C p j)) ≡ false
+  from-p : (j : ℕ) → (((ρ && (up || (K p 0 && uq))) && Pp j) && not (K p j || Redo p j)) ≡ false
   from-p j =
-      left-both ρ up uq hp hq (Pp j) γ (K p 0) (K p j) (C p j) (par-active E H p) (par-active E H q) side
+      left-both ρ up uq hp hq (Pp j) γ (K p 0) (K p j) (Redo p j) (par-active E H p) (par-active E H q) side
       (rp .both j) (started E H p γ ρ Pp Mp Wp sp rp j)
 
   sequence-both : (j : ℕ)
-      → (((ρ && (up || (K p 0 && uq))) && P j) && not (replaced (K p) (K q) j || (replaced (C p) (K q) j || (K p 0 && C q j)))) ≡ false
+      → (((ρ && (up || (K p 0 && uq))) && P j) && not (replaced (K p) (K q) j || (replaced (Redo p) (K q) j || (K p 0 && Redo q j)))) ≡ false
   sequence-both zero = rw at0 (from-q 0)
   sequence-both (suc j) =
       rw (ats j)
-      (joined-both (ρ && (up || (K p 0 && uq))) (Pp (suc j)) (Pq (suc j)) (K p (suc j)) (C p (suc j))
-      (K p 0 && K q (suc j)) (C p 0 && K q (suc j)) (K p 0 && C q (suc j)) (from-p (suc j)) (from-q (suc j)))
+      (joined-both (ρ && (up || (K p 0 && uq))) (Pp (suc j)) (Pq (suc j)) (K p (suc j)) (Redo p (suc j))
+      (K p 0 && K q (suc j)) (Redo p 0 && K q (suc j)) (K p 0 && Redo q (suc j)) (from-p (suc j)) (from-q (suc j)))
 
   pub sequence-runs : Runs E H (two Sequence p q) γ ρ P M W
-  unfolding start resume active K C Par
+  unfolding start resume active K Redo Par
   sequence-runs = record { codes = sequence-codes; emits = sequence-emits; halts = sequence-halts; both = sequence-both }

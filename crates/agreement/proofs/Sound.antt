@@ -12,35 +12,13 @@ use Rattle.sheet.specs.declared.Binary.{Binary}
 use Rattle.sheet.specs.declared.Binary.the-variants.{Sequence, Present, Parallel}
 use Rattle.sheet.specs.Stmt.{Stmt, leaf, one, two, haltCount}
 use Rattle.sheet.proofs.Notions.{Numbered, Exits, trapsIn}
-use Rattle.sets.specs.Codes.{Codes, empty, join, when, replaced, less0, caughtCodes}
-use Rattle.sets.specs.Static.{K, R}
+use Rattle.sets.specs.Static.{K}
 use Rattle.rules.specs.Rules.{Signals, Halts, active}
 use Rattle.rules.specs.States.{apart}
 use Rattle.rules.proofs.Codes.{NoInstant, sequence-left, sequence-right, parallel-left, parallel-right}
+use Rattle.agreement.proofs.Restarts.{NoRestart}
 
--- Take the outermost parallels which starting the statement may start. C has the codes that the statement may show where one of them is resumed.
-unfoldable pub C : Stmt → Codes
-unfolding K R
-C (leaf l) = empty
-C (two Sequence p q) = join (replaced (C p) (K q)) (when (K p 0) (C q))
-C (one Loop p) = less0 (C p)
-C (two (Present s) p q) = join (C p) (C q)
-C (one (Watching s) p) = C p
-C (two Parallel p q) = R (two Parallel p q)
-C (one Trap p) = caughtCodes (C p)
-C (one (Signal s) p) = C p
-
--- no loop ends, and so starts its part again, while one of them is resumed: such a parallel has one life at a time
-unfoldable pub NoTwice : Stmt → Type 0
-unfolding C
-NoTwice (leaf l) = Unit
-NoTwice (one Loop p) = (C p 0 ≡ false) × NoTwice p
-NoTwice (one (Watching s) p) = NoTwice p
-NoTwice (one Trap p) = NoTwice p
-NoTwice (one (Signal s) p) = NoTwice p
-NoTwice (two b p q) = NoTwice p × NoTwice q
-
--- whether one of them is resumed when the statement is
+-- Take the outermost parallels which starting the statement may start: whether one of them is resumed when the statement is.
 unfoldable pub Par : Signals → Halts → Stmt → Bool
 unfolding active K
 Par E H (leaf l) = false
@@ -59,7 +37,7 @@ pub record Sound (H : Halts) (t : Stmt) : Type 0 where
   pub exits : Exits traps t
   pub numbered : Numbered first t
   pub no-instant : NoInstant t
-  pub no-twice : NoTwice t
+  pub no-twice : NoRestart t
   pub fit : apart H t ≡ true
 
 -- so are its parts
@@ -71,8 +49,8 @@ module _ (H : Halts) where
   part-instant Trap p w = w
   part-instant (Signal s) p w = w
 
-  part-twice : (u : Unary) (p : Stmt) → NoTwice (one u p) → NoTwice p
-  unfolding NoTwice
+  part-twice : (u : Unary) (p : Stmt) → NoRestart (one u p) → NoRestart p
+  unfolding NoRestart
   part-twice Loop p w = w .1
   part-twice (Watching s) p w = w
   part-twice Trap p w = w
@@ -104,7 +82,7 @@ module _ (H : Halts) where
   fit-right Parallel p q f = parallel-right H p q f
 
   pub sound-left : (b : Binary) (p q : Stmt) → Sound H (two b p q) → Sound H p
-  unfolding Exits Numbered NoInstant NoTwice
+  unfolding Exits Numbered NoInstant NoRestart
   sound-left b p q w =
       record {
         traps = w .traps;
@@ -117,7 +95,7 @@ module _ (H : Halts) where
       }
 
   pub sound-right : (b : Binary) (p q : Stmt) → Sound H (two b p q) → Sound H q
-  unfolding Exits Numbered NoInstant NoTwice
+  unfolding Exits Numbered NoInstant NoRestart
   sound-right b p q w =
       record {
         traps = w .traps;

@@ -1,7 +1,7 @@
 -- Demand 3, for every accepted sheet: the theorems that others use; over words they are `word-reaction` (InWords) and `word-run`, `word-theorem`
 -- (WordRuns). How they come about: by induction on the statement, for any values that solve its cells while the signals' cells are left open, its nets
 -- do what the start and resumption rules say (Runs and the files named after each kind; Right, Structure). `both` of Runs is carried along, so that
--- INSTANT and TWICE keep a loop's code 0 low (Checks alone uses TWICE). So what a signal's cell asks for is the set made anew of tick, inputs and
+-- INSTANT and TWICE keep a loop's code 0 low (Restarts alone uses TWICE). So what a signal's cell asks for is the set made anew of tick, inputs and
 -- emissions (Root, Made). A solution therefore shows a set that agrees; a set that agrees, held at the signals' cells, gives a solution, and there is
 -- one (Agreeing); and by the rank of the signals' cells each round sets one signal more right (Settles).
 use mathlib.Core.Path.{_≡_, refl, sym, _∙_, ap, ap₂, subst, fun-ext}

@@ -7,9 +7,10 @@ use Rattle.number.proofs.Bools.{taut}
 use Rattle.sheet.specs.declared.Unary.the-variants.{Trap, Signal}
 use Rattle.sheet.specs.Stmt.{Stmt, one}
 use Rattle.sets.specs.Codes.{Codes, same, caught, caughtCodes}
-use Rattle.sets.specs.Static.{K}
+use Rattle.sets.specs.Static.{K, R}
 use Rattle.rules.specs.Rules.{Signals, Halts, start, active, resume}
-use Rattle.agreement.proofs.Sound.{C, Par}
+use Rattle.agreement.proofs.Restarts.{Redo}
+use Rattle.agreement.proofs.Sound.{Par}
 use Rattle.agreement.proofs.Runs.{live, Runs}
 
 caught-code : (a j : ℕ) → same (caught a) j ≡ caughtCodes (same a) j
@@ -49,16 +50,25 @@ module _ (E : Signals) (H : Halts) (p : Stmt) (γ ρ : Bool) (Pp P : Codes) (M :
   trap-codes ok (suc zero) = rw (at1, rp .codes ok 1, caught-code a 1, caught-code c 1)
   trap-codes ok (suc (suc j)) = rw (ats j, rp .codes ok (suc (suc (suc j))), caught-code a (suc (suc j)), caught-code c (suc (suc j)))
 
-  trap-both : (j : ℕ) → (((ρ && Par E H p) && P j) && not (caughtCodes (K p) j || caughtCodes (C p) j)) ≡ false
-  trap-both zero = rw at0 (either-both (ρ && Par E H p) (Pp 0) (Pp 2) (K p 0) (K p 2) (C p 0) (C p 2) (rp .both 0) (rp .both 2))
+  trap-both : (j : ℕ) → (((ρ && Par E H p) && P j) && not (caughtCodes (K p) j || caughtCodes (Redo p) j)) ≡ false
+  trap-both zero = rw at0 (either-both (ρ && Par E H p) (Pp 0) (Pp 2) (K p 0) (K p 2) (Redo p 0) (Redo p 2) (rp .both 0) (rp .both 2))
   trap-both (suc zero) = rw at1 (rp .both 1)
   trap-both (suc (suc j)) = rw (ats j) (rp .both (suc (suc (suc j))))
 
   pub trap-runs : Runs E H (one Trap p) γ ρ P M W
-  unfolding start resume active K C Par
+  unfolding start resume active K Redo Par
   trap-runs = record { codes = trap-codes; emits = rp .emits; halts = rp .halts; both = trap-both }
+
+more-both : (x k r c : Bool) → (x && not (k || c)) ≡ false → (x && not (k || (r || c))) ≡ false
+more-both = taut 4 1 _ _ _ tt
 
 pub signal-runs : (E : Signals) (H : Halts) (x : SignalNo) (p : Stmt) (γ ρ : Bool) (P : Codes) (M : Signals) (W : Halts) → Runs E H p γ ρ P M W
     → Runs E H (one (Signal x) p) γ ρ P M W
-unfolding start resume active K C Par
-signal-runs E H x p γ ρ P M W rp = record { codes = rp .codes; emits = rp .emits; halts = rp .halts; both = rp .both }
+unfolding start resume active K Redo Par
+signal-runs E H x p γ ρ P M W rp =
+    record {
+      codes = rp .codes;
+      emits = rp .emits;
+      halts = rp .halts;
+      both = λ j. more-both ((ρ && Par E H p) && P j) (K p j) (R (one (Signal x) p) j) (Redo p j) (rp .both j);
+    }

@@ -11,7 +11,8 @@ use Rattle.sheet.specs.Stmt.{Stmt, one}
 use Rattle.sets.specs.Codes.{Codes, same}
 use Rattle.sets.specs.Static.{K}
 use Rattle.rules.specs.Rules.{Signals, Halts, Outcome, idle, start, active, resume}
-use Rattle.agreement.proofs.Sound.{C, Par}
+use Rattle.agreement.proofs.Restarts.{Redo}
+use Rattle.agreement.proofs.Sound.{Par}
 use Rattle.agreement.proofs.Runs.{live, Runs, choose, pick-code, pick-emits, pick-halts}
 
 absent-ok : (γ ρ e u : Bool) → (γ && (ρ && (not e && u))) ≡ false → (γ && ((ρ && not e) && u)) ≡ false
@@ -62,10 +63,10 @@ module _ (E : Signals) (H : Halts) (s : SignalNo) (p : Stmt) (γ ρ : Bool) (Pp 
   watching-halts : Ok → (k : HaltNo) → W k ≡ live γ (ρ && h) (a .halts k) ((pick (E s) idle c) .halts k)
   watching-halts ok k = rw (rp .halts (part-ok ok) k, pick-halts (E s) idle c k) (cut-live γ ρ (E s) h (a .halts k) (c .halts k))
 
-  watching-both : (j : ℕ) → (((ρ && (not (E s) && Par E H p)) && P j) && not (K p j || C p j)) ≡ false
-  watching-both zero = rw at0 (cut-both ρ (E s) (Par E H p) (Pp 0) h (K p 0 || C p 0) (rp .both 0))
-  watching-both (suc j) = rw (ats j) (past-both ρ (E s) (Par E H p) (Pp (suc j)) (K p (suc j) || C p (suc j)) (rp .both (suc j)))
+  watching-both : (j : ℕ) → (((ρ && (not (E s) && Par E H p)) && P j) && not (K p j || Redo p j)) ≡ false
+  watching-both zero = rw at0 (cut-both ρ (E s) (Par E H p) (Pp 0) h (K p 0 || Redo p 0) (rp .both 0))
+  watching-both (suc j) = rw (ats j) (past-both ρ (E s) (Par E H p) (Pp (suc j)) (K p (suc j) || Redo p (suc j)) (rp .both (suc j)))
 
   pub watching-runs : Runs E H (one (Watching s) p) γ ρ P M W
-  unfolding start resume active K C Par
+  unfolding start resume active K Redo Par
   watching-runs = record { codes = watching-codes; emits = watching-emits; halts = watching-halts; both = watching-both }

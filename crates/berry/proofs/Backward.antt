@@ -25,7 +25,7 @@ use Rattle.berry.specs.Behaviour.{unlessEnded, localsOf}
 use Rattle.berry.specs.Haltsets.{recovering}
 use Rattle.berry.proofs.Scopes.{inLocals, Bound, only-self, only-in, only-out, undeclared}
 use Rattle.berry.proofs.Tests.{all-in, more-in}
-use Rattle.berry.proofs.Restarts.{NoRestart}
+use Rattle.agreement.proofs.Restarts.{NoRestart}
 use Rattle.berry.proofs.Lives.{startLives, resumeLives, lives-once}
 use Rattle.berry.proofs.Courses.{Course, steady, ending, halting, emitting, exiting, afterLeft, afterTrap, thenCourse, besideCourse, pickCourse}
 use Rattle.berry.proofs.Courses.{loopCourse, watchingCourse, trapCourse, signalCourse, startBecomes, resumeBecomes, startCourse, resumeCourse}

@@ -26,7 +26,7 @@ use Rattle.berry.specs.Haltsets.{recovered}
 use Rattle.berry.specs.Modules.{Transition, Move, moveOf, body, haltsetOf, standsFor, outputsOf, localsIn, moveOn, Faithful}
 use Rattle.berry.proofs.Derivatives.{recovers}
 use Rattle.berry.proofs.Scopes.{Bound, placed-bound}
-use Rattle.berry.proofs.Restarts.{NoRestart, no-restart}
+use Rattle.agreement.proofs.Restarts.{NoRestart, no-restart}
 use Rattle.berry.proofs.Courses.{startCourse, resumeCourse, reactCourse}
 use Rattle.berry.proofs.Reactions.{Follows, Moves, resting, bodyCourse, alone-follows, alone-lefts, body-follows, rest-level, rest-haltset}
 use Rattle.berry.proofs.Reactions.{forward, backward}

@@ -26,7 +26,7 @@ use Rattle.berry.specs.Behaviour.{watching-rule, parallel-rule, trap-end
 use Rattle.berry.specs.Behaviour.{unlessEnded}
 use Rattle.berry.specs.Haltsets.{recovering}
 use Rattle.berry.proofs.Scopes.{Bound, only-self, only-in, only-out, same-signal}
-use Rattle.berry.proofs.Restarts.{NoRestart}
+use Rattle.agreement.proofs.Restarts.{NoRestart}
 use Rattle.berry.proofs.Lives.{startLives, resumeLives, lives-once}
 use Rattle.berry.proofs.Runs.{Separate, Closed, separate, start-run, resume-run, side-run, followed-first, followed-second, beside-first, beside-second}
 

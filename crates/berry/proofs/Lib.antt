@@ -1,7 +1,6 @@
 pub mod Tests
 pub mod Derivatives
 pub mod Scopes
-pub mod Restarts
 pub mod Lives
 pub mod Courses
 pub mod Runs

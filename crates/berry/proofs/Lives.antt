@@ -19,7 +19,7 @@ use Rattle.rules.proofs.Again.{own-both, only-right}
 use Rattle.agreement.proofs.Runs.{followed-emits}
 use Rattle.berry.proofs.Scopes.{declared, inLocals, Bound, only-in}
 use Rattle.berry.proofs.Tests.{more-in}
-use Rattle.berry.proofs.Restarts.{Redo, NoRestart}
+use Rattle.agreement.proofs.Restarts.{Redo, NoRestart}
 
 -- the signals that live when t is started ..
 unfoldable pub startLives : Signals → Stmt → Signals
@@ -317,7 +317,9 @@ module _ (E F : Signals) (H : Halts) (s : SignalNo) where
   lives-twice X (one (Watching x) p) w f b h r u = watching-twice p (lives-twice X p w f (b .1) h) u (E x) r
   lives-twice X (one Trap p) w f b h r u = trap-shared (Redo p) (K p) ((resume E H p) .code) (lives-twice X p w f (b .1) h r u)
   lives-twice X (one (Signal x) p) w f b h r u =
-      or-left (R (one (Signal x) p) ((resume E H p) .code)) (K p ((resume E H p) .code)) (resume-in-R E H (one (Signal x) p) w f h)
+      let c : ℕ = (resume E H p) .code in
+      let own : Codes = R (one (Signal x) p) in
+      or-left (own c || Redo p c) (K p c) (or-left (own c) (Redo p c) (resume-in-R E H (one (Signal x) p) w f h))
   lives-twice X (two Sequence p q) w f b h r u =
       sequence-twice p q (w .0) (w .1) (b .3) h (lives-twice X p (w .0) (sequence-left H p q f) (b .1))
       (lives-twice X q (w .1) (sequence-right H p q f) (b .2)) u (active H p) refl r

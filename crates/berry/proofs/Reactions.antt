@@ -29,7 +29,7 @@ use Rattle.berry.specs.Modules.{Transition, trailing, body, haltsetOf, s
 use Rattle.berry.proofs.Derivatives.{Lefts, nothing-lefts, start-lefts, resume-lefts}
 use Rattle.berry.proofs.Scopes.{inLocals, Bound}
 use Rattle.berry.proofs.Tests.{all-in}
-use Rattle.berry.proofs.Restarts.{NoRestart}
+use Rattle.agreement.proofs.Restarts.{NoRestart}
 use Rattle.berry.proofs.Lives.{startLives, resumeLives}
 use Rattle.berry.proofs.Courses.{Course, ending, halting, thenCourse, pickCourse, startCourse, resumeCourse, reactCourse}
 use Rattle.berry.proofs.Runs.{Run, Closed, start-run, side-run}

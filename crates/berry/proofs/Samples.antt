@@ -29,6 +29,7 @@ use Rattle.builder.specs.Netlist.{netlist, sheetNetlist, rootOf, inputCells, si
 use Rattle.order.specs.Paths.{Ordered}
 use Rattle.order.proofs.ByTest.{every, inOrder, ordered}
 use Rattle.compiler.specs.Check.{unless, roomy, judged, judge, Accepted, accepted}
+use Rattle.agreement.proofs.Example.{rounds, rounds-accepted}
 use Rattle.berry.specs.Behaviour.{Step, nothing-rule, halt-rule, emit-rule, sequence-on, sequence-stays, loop-rule, present-then, present-else}
 use Rattle.berry.specs.Behaviour.{watching-rule, parallel-rule, signal-present, signal-absent, without, localsOf}
 use Rattle.berry.specs.Haltsets.{recovering}
@@ -80,6 +81,10 @@ hand-faithful = faithful hand-accepted handState hand-fits (only (signalNo 1)) (
 
 pub hand-correct : Correct 1 (body (hand .root))
 hand-correct = correct hand-accepted
+
+-- the program whose loop waits and then starts a parallel
+pub rounds-correct : Correct 3 (body (rounds .root))
+rounds-correct = correct rounds-accepted
 
 -- 004's program without a fixpoint has no transition.
 no-event : (i : ℕ) → Event i empty

@@ -18,7 +18,7 @@ use Rattle.sets.specs.declared.Found.{Found}
 use Rattle.sets.specs.declared.Found.the-variants.{At, Clear}
 use Rattle.sets.specs.Codes.{Codes, empty, join, when, upto, maxima, replaced, with0, caughtCodes}
 use Rattle.sets.specs.Static.{K, R}
-use Rattle.sets.specs.Faults.{orElse, Climb, through, looped, besides, climbs, firstFault, twice}
+use Rattle.sets.specs.Faults.{orElse, Climb, through, behind, looped, besides, climbs, firstFault, twice}
 use Rattle.sets.specs.Words.{Low}
 use Rattle.sets.specs.Leads.{some, both, meet, downto, atLeast, leadsSequence, leadsTrap, leadsParallel, leadsOne, leadsLeft}
 use Rattle.sets.specs.Leads.{leadsRight, firstLed}
@@ -163,18 +163,32 @@ parallel-climb ended C R F =
     ∙ (λ i. meet-join maxCodes up down C i || meet-when maxCodes ended F C i) in
     climbed ∙ sym led
 
--- "A loop reached with 0 in C is the fault."
-loop-climb : (fault : Bool) (C F : Codes) → ((fault || C 0) || meet maxCodes C F) ≡ (fault || meet maxCodes C (with0 F))
-unfolding meet some
-loop-climb fault C F = regroup fault (C 0) (F 0) (some (maxCodes - 1) (λ j. C (suc j) && F (suc j)))
+-- "a right side of a sequence is reached only if its left has 0 in K": behind a wall no code leads to a fault
+behind-climb : (k starts : Bool) (C F : Codes) → ((k && starts) && meet maxCodes C F) ≡ (starts && meet maxCodes C (when k F))
+behind-climb k starts C F =
+    let led : meet maxCodes C (when k F) ≡ (k && meet maxCodes C F) =
+    meet-flip maxCodes C (when k F) ∙ meet-when maxCodes k F C ∙ rw (meet-flip maxCodes F C) in
+    rw led (regroup k starts (meet maxCodes C F))
   where
-    regroup : (f a x y : Bool) → ((f || a) || ((a && x) || y)) ≡ (f || ((a && true) || y))
-    regroup = taut 4 0 _ _ _ tt
+    regroup : (k s m : Bool) → ((k && s) && m) ≡ (s && (k && m))
+    regroup = taut 3 0 _ _ _ tt
 
--- the first climb that is at fault, or comes with a code of F
+-- "A loop reached with 0 in C" is the fault where there is no wall; where there is one, no fault is met further up. So it is all the same by
+-- which B 0 is replaced.
+loop-climb : (fault starts : Bool) (C B F : Codes)
+    → ((fault || (starts && C 0)) || (starts && meet maxCodes (replaced C B) F)) ≡ (fault || (starts && meet maxCodes C (with0 F)))
+unfolding meet some leadsSequence
+loop-climb fault starts C B F =
+    let rest : Bool = some (maxCodes - 1) (λ j. C (suc j) && F (suc j)) in
+    rw (sequence-climb C B F) (regroup fault starts (C 0) (meet maxCodes B F) rest)
+  where
+    regroup : (f s a x y : Bool) → ((f || (s && a)) || (s && ((a && x) || y))) ≡ (f || (s && ((a && true) || y)))
+    regroup = taut 5 0 _ _ _ tt
+
+-- the first climb that is at fault, or comes with a code of F and without a wall
 unfoldable firstMeeting : Codes → List Climb → Found
 firstMeeting F [] = Clear
-firstMeeting F (c ∷ cs) = pick (c .fault || meet maxCodes (c .codes) F) (At (c .at)) (firstMeeting F cs)
+firstMeeting F (c ∷ cs) = pick (c .fault || (c .starts && meet maxCodes (c .codes) F)) (At (c .at)) (firstMeeting F cs)
 
 unfoldable AllLow : List Climb → Type 0
 AllLow [] = Unit
@@ -186,15 +200,21 @@ unfolding firstMeeting AllLow
 first-through f F G same [] low = refl
 first-through f F G same (c ∷ cs) low = rw (same (c .codes) (low .0), first-through f F G same cs (low .1))
 
-first-looped : (F : Codes) (cs : List Climb) → firstMeeting F (map looped cs) ≡ firstMeeting (with0 F) cs
+first-behind : (p : Stmt) (F : Codes) (cs : List Climb) → firstMeeting F (map (behind p) cs) ≡ firstMeeting (when (K p 0) F) cs
 unfolding firstMeeting
-first-looped F [] = refl
-first-looped F (c ∷ cs) = rw (loop-climb (c .fault) (c .codes) F, first-looped F cs)
+first-behind p F [] = refl
+first-behind p F (c ∷ cs) =
+    λ i. pick (c .fault || behind-climb (K p 0) (c .starts) (c .codes) F i) (At (c .at)) (first-behind p F cs i)
+
+first-looped : (p : Stmt) (F : Codes) (cs : List Climb) → firstMeeting F (map (looped p) cs) ≡ firstMeeting (with0 F) cs
+unfolding firstMeeting
+first-looped p F [] = refl
+first-looped p F (c ∷ cs) = rw (loop-climb (c .fault) (c .starts) (c .codes) (K p) F, first-looped p F cs)
 
 first-append : (F : Codes) (xs ys : List Climb) → firstMeeting F (xs ++ ys) ≡ orElse (firstMeeting F xs) (firstMeeting F ys)
 unfolding firstMeeting orElse pick
 first-append F [] ys = refl
-first-append F (c ∷ cs) ys = rw (first-append F cs ys) (go (c .fault || meet maxCodes (c .codes) F))
+first-append F (c ∷ cs) ys = rw (first-append F cs ys) (go (c .fault || (c .starts && meet maxCodes (c .codes) F)))
   where
     go : (b : Bool)
         → pick b (At (c .at)) (orElse (firstMeeting F cs) (firstMeeting F ys))
@@ -208,16 +228,11 @@ unfolding AllLow
 low-append [] ys a b = b
 low-append (c ∷ cs) ys a b = (a .0, low-append cs ys (a .1) b)
 
-low-through : (f : Codes → Codes) → ((C : Codes) → Bounded maxCodes C → Bounded maxCodes (f C)) → (cs : List Climb) → AllLow cs
-    → AllLow (map (through f) cs)
+low-map : (g : Climb → Climb) → ((c : Climb) → Bounded maxCodes (c .codes) → Bounded maxCodes ((g c) .codes)) → (cs : List Climb)
+    → AllLow cs → AllLow (map g cs)
 unfolding AllLow
-low-through f keeps [] low = tt
-low-through f keeps (c ∷ cs) low = (keeps (c .codes) (low .0), low-through f keeps cs (low .1))
-
-low-looped : (cs : List Climb) → AllLow cs → AllLow (map looped cs)
-unfolding AllLow
-low-looped [] low = tt
-low-looped (c ∷ cs) low = (low .0, low-looped cs (low .1))
+low-map g keeps [] low = tt
+low-map g keeps (c ∷ cs) low = (keeps c (low .0), low-map g keeps cs (low .1))
 
 besides-low : (q : Stmt) → Low q → (C : Codes) → Bounded maxCodes C → Bounded maxCodes (besides q C)
 besides-low q low C c =
@@ -230,16 +245,21 @@ caught-low C c = bounded-caught maxCodes C (omega arith) (bounded-more (suc maxC
 climbs-low : (n : StmtNo) (t : Stmt) → Low t → AllLow (climbs n t)
 unfolding climbs AllLow Low
 climbs-low n (leaf l) low = tt
-climbs-low n (one Loop p) low = low-looped (climbs (further n 1) p) (climbs-low (further n 1) p low)
+climbs-low n (one Loop p) low =
+    let xs : List Climb = climbs (further n 1) p in
+    low-map (looped p) (λ c b. bounded-replaced maxCodes (c .codes) (K p) b (K-low p low)) xs (climbs-low (further n 1) p low)
 climbs-low n (one (Watching s) p) low = climbs-low (further n 1) p low
-climbs-low n (one Trap p) low = low-through caughtCodes caught-low (climbs (further n 1) p) (climbs-low (further n 1) p low)
+climbs-low n (one Trap p) low =
+    low-map (through caughtCodes) (λ c. caught-low (c .codes)) (climbs (further n 1) p) (climbs-low (further n 1) p low)
 climbs-low n (one (Signal s) p) low = (R-low (one (Signal s) p) low, climbs-low (further n 1) p low)
 climbs-low n (two Sequence p q) low =
     let xs : List Climb = climbs (further n 1) p in
     let replacing : Codes → Codes = λ C. replaced C (K q) in
-    low-append (map (through replacing) xs) (climbs (further n (1 + size p)) q)
-    (low-through replacing (λ C c. bounded-replaced maxCodes C (K q) c (K-low q (low .1))) xs (climbs-low (further n 1) p (low .0)))
-    (climbs-low (further n (1 + size p)) q (low .1))
+    let ys : List Climb = climbs (further n (1 + size p)) q in
+    low-append (map (through replacing) xs) (map (behind p) ys)
+    (low-map (through replacing) (λ c b. bounded-replaced maxCodes (c .codes) (K q) b (K-low q (low .1))) xs
+    (climbs-low (further n 1) p (low .0)))
+    (low-map (behind p) (λ c b. b) ys (climbs-low (further n (1 + size p)) q (low .1)))
 climbs-low n (two (Present s) p q) low =
     low-append (climbs (further n 1) p) (climbs (further n (1 + size p)) q) (climbs-low (further n 1) p (low .0))
     (climbs-low (further n (1 + size p)) q (low .1))
@@ -248,15 +268,15 @@ climbs-low n (two Parallel p q) low =
     let ys : List Climb = climbs (further n (1 + size p)) q in (
       R-low (two Parallel p q) low,
       low-append (map (through (besides q)) xs) (map (through (besides p)) ys)
-          (low-through (besides q) (besides-low q (low .1)) xs (climbs-low (further n 1) p (low .0)))
-          (low-through (besides p) (besides-low p (low .0)) ys (climbs-low (further n (1 + size p)) q (low .1))),
+          (low-map (through (besides q)) (λ c. besides-low q (low .1) (c .codes)) xs (climbs-low (further n 1) p (low .0)))
+          (low-map (through (besides p)) (λ c. besides-low p (low .0) (c .codes)) ys (climbs-low (further n (1 + size p)) q (low .1))),
     )
 
 -- the walk down finds the first climb that meets F
 led-climbs : (F : Codes) (n : StmtNo) (t : Stmt) → Low t → firstLed F n t ≡ firstMeeting F (climbs n t)
 unfolding firstLed firstMeeting climbs Low leadsOne leadsLeft leadsRight pick
 led-climbs F n (leaf l) low = refl
-led-climbs F n (one Loop p) low = led-climbs (with0 F) (further n 1) p low ∙ sym (first-looped F (climbs (further n 1) p))
+led-climbs F n (one Loop p) low = led-climbs (with0 F) (further n 1) p low ∙ sym (first-looped p F (climbs (further n 1) p))
 led-climbs F n (one (Watching s) p) low = led-climbs F (further n 1) p low
 led-climbs F n (one Trap p) low =
     let cs : List Climb = climbs (further n 1) p in
@@ -269,7 +289,8 @@ led-climbs F n (two Sequence p q) low =
     let replacing : Codes → Codes = λ C. replaced C (K q) in
     let left = led-climbs (leadsSequence (K q) F) n₁ p (low .0)
     ∙ sym (first-through replacing F (leadsSequence (K q) F) (λ C c. sequence-climb C (K q) F) (climbs n₁ p) (climbs-low n₁ p (low .0))) in
-    (λ i. orElse (left i) (led-climbs F n₂ q (low .1) i)) ∙ sym (first-append F (map (through replacing) (climbs n₁ p)) (climbs n₂ q))
+    let right = led-climbs (when (K p 0) F) n₂ q (low .1) ∙ sym (first-behind p F (climbs n₂ q)) in
+    (λ i. orElse (left i) (right i)) ∙ sym (first-append F (map (through replacing) (climbs n₁ p)) (map (behind p) (climbs n₂ q)))
 led-climbs F n (two (Present s) p q) low =
     let n₁ : StmtNo = further n 1 in
     let n₂ : StmtNo = further n (1 + size p) in
@@ -296,7 +317,7 @@ meet-empty C = some-alike maxCodes (both C empty) empty (λ j h. and-false (C j)
 first-fault : (cs : List Climb) → firstMeeting empty cs ≡ firstFault cs
 unfolding firstMeeting firstFault
 first-fault [] = refl
-first-fault (c ∷ cs) = rw (meet-empty (c .codes), or-false (c .fault), first-fault cs)
+first-fault (c ∷ cs) = rw (meet-empty (c .codes), and-false (c .starts), or-false (c .fault), first-fault cs)
 
 pub led-twice : (n : StmtNo) (t : Stmt) → Low t → firstLed empty n t ≡ twice n t
 unfolding twice

@@ -95,6 +95,10 @@ module _ (q : Both) (v : Stmt) (m : Means q v) (F : Codes) where
   unfolding leadsLeft
   left-means = λ i. leadsParallel (m .starts i 0 || m .resumes i 0) (m .resumes i) F
 
+  pub behind-means : {b : Bool} → b ≡ has (q .k) 0 → when b F ≡ leadsRight Sequence v F
+  unfolding leadsRight
+  behind-means e = λ i. when ((e ∙ (λ j. m .starts j 0)) i) F
+
   pub right-means : leadsParallel (has (q .k) 0 || has (q .r) 0) (has (q .r)) F ≡ leadsRight Parallel v F
   unfolding leadsRight
   right-means = λ i. leadsParallel (m .starts i 0 || m .resumes i 0) (m .resumes i) F

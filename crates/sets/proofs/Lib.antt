@@ -5,5 +5,6 @@ pub mod Columns
 pub mod Standing
 pub mod Filling
 pub mod Climbs
+pub mod Walls
 pub mod Leading
 pub mod Searching

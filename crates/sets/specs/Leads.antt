@@ -78,8 +78,9 @@ leadsLeft Sequence q F = leadsSequence (K q) F
 leadsLeft (Present s) q F = F
 leadsLeft Parallel q F = leadsParallel (K q 0 || R q 0) (R q) F
 
+-- behind a left without 0 in K, a wall, no code leads to the fault of a loop further out
 unfoldable pub leadsRight : Binary → Stmt → Codes → Codes
-leadsRight Sequence p F = F
+leadsRight Sequence p F = when (K p 0) F
 leadsRight (Present s) p F = F
 leadsRight Parallel p F = leadsParallel (K p 0 || R p 0) (R p) F
 

@@ -368,13 +368,14 @@ fn leads_left(b: Binary, q: Both, f: u64) -> u64
     }
 }
 
-// Into the right of a sequence they lead on as they are: it has the codes of the whole.
+// Into the right of a sequence they lead on as they are, since it has the codes of the whole; but none behind a left side that cannot end at once: no loop further out
+// starts what stands there.
 fn leads_right(b: Binary, p: Both, f: u64) -> u64
     requires { ⌜ p .r < codeSpan ⌝ }
     ensures { λ r. ⌜ ((t : Stmt) → Means p t → has r ≡ leadsRight b t (has f)) ⌝ }
 {
     match b {
-        Binary::Sequence => f,
+        Binary::Sequence => only_if(bits::member(p.k, 0), f),
         Binary::Present(_) => f,
         Binary::Parallel => leads_parallel(p, f),
     }

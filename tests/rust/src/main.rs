@@ -3,6 +3,7 @@
 //!     cargo run --release -- ANSWERS [COUNT] [SEED]          ANSWERS is a command that answers the questions it reads
 //!     cargo run --release -- trace TRACE [COUNT] [SEED]      the same of the trace program: TRACE is run once for each input
 //!     cargo run --release -- vectors QUESTIONS ANSWERS       the model alone against answers that are stored
+//!     cargo run --release -- search SIZE                     the model alone: demand 3 of all programs of up to SIZE statements that request 1 newly accepts
 
 mod answers;
 mod file;
@@ -11,6 +12,7 @@ mod netlist;
 mod questions;
 mod random;
 mod rules;
+mod search;
 mod sets;
 mod sheet;
 mod table;
@@ -19,6 +21,7 @@ mod trace;
 use answers::Agreement;
 use questions::Questions;
 use random::Random;
+use search::Search;
 use sheet::ORDER;
 use std::collections::BTreeMap;
 use std::fs::{self, File};
@@ -114,6 +117,13 @@ fn vectors(questions: &str, answers: &str) -> bool {
     report_agreement(&agreement) && differing == 0
 }
 
+fn search(size: usize) -> bool {
+    let mut search = Search::default();
+    search.look_through(size);
+    println!("of all programs of up to {size} statements {} are newly accepted; {} more are CYCLE now and were TWICE", search.accepted, search.cyclic);
+    report_agreement(&search.agreement)
+}
+
 fn independent(command: &str, count: usize, seed: u64) -> bool {
     println!("seed {seed}, {count} questions");
     let mut questions = Questions { random: Random(seed), lines: Vec::new() };
@@ -150,6 +160,7 @@ fn main() {
     let now = SystemTime::now().duration_since(UNIX_EPOCH).map_or(1, |time| time.as_nanos() as u64);
     let good = match &words[..] {
         [word, questions, answers] if word == "vectors" => Some(vectors(questions, answers)),
+        [word, size] if word == "search" => size.parse().ok().map(search),
         [word, command, ..] if word == "trace" => number(2, 1000).zip(number(3, now)).map(|(count, seed)| traces(command, count as usize, seed)),
         [command, ..] => number(1, 100_000).zip(number(2, now)).map(|(count, seed)| independent(command, count as usize, seed)),
         [] => None,
@@ -157,7 +168,7 @@ fn main() {
     match good {
         Some(good) => exit(!good as i32),
         None => {
-            println!("usage: cargo run --release -- ANSWERS [COUNT] [SEED], or trace TRACE [COUNT] [SEED], or vectors QUESTIONS ANSWERS");
+            println!("usage: cargo run --release -- ANSWERS [COUNT] [SEED], or trace TRACE [COUNT] [SEED], or vectors QUESTIONS ANSWERS, or search SIZE");
             exit(2);
         }
     }

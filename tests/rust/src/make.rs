@@ -246,6 +246,26 @@ pub fn relay(random: &mut Random) -> Vec<u8> {
     })
 }
 
+/// A loop that waits, or does not, before a parallel or signal statement: what request 1 is about. What waits may be a parallel itself.
+pub fn rounds(random: &mut Random) -> Vec<u8> {
+    let taste = Taste { halts: 100, ..taste(random) };
+    let (before, size) = (random.below(10), random.between(4, 20));
+    sheet_of(random, taste, |maker| {
+        maker.put(4);
+        maker.put(3);
+        match before {
+            0..=6 => maker.wait(),
+            7 => maker.two(7, 5, 3, 0),
+            _ => maker.statement(4, 3, 0),
+        }
+        if maker.random.percent(70) {
+            maker.two(7, size, 3, 0);
+        } else {
+            maker.signal(size, 3, 0);
+        }
+    })
+}
+
 /// So many statements of one part, each around the next, or a tree of them with so many leaves.
 fn chain(maker: &mut Maker, kind: usize, length: usize, leaf: usize) {
     for _ in 0..length {

@@ -80,8 +80,11 @@ impl Questions {
     /// A sheet that is accepted, if one comes up soon.
     fn accepted(&mut self) -> Option<(Vec<u8>, Program)> {
         for _ in 0..10 {
-            let relay = self.random.percent(15);
-            let sheet = if relay { make::relay(&mut self.random) } else { make::program(&mut self.random) };
+            let sheet = match self.random.below(20) {
+                0..=2 => make::relay(&mut self.random),
+                3..=4 => make::rounds(&mut self.random),
+                _ => make::program(&mut self.random),
+            };
             if let Ok(p) = check(&sheet) {
                 return Some((sheet, p));
             }
@@ -165,6 +168,8 @@ impl Questions {
 
     fn about_damaged_program(&mut self) {
         let sheet = make::careless(&mut self.random);
+        self.about_doubtful(&sheet);
+        let sheet = make::rounds(&mut self.random);
         self.about_doubtful(&sheet);
         let sheet = make::program(&mut self.random);
         self.about_doubtful(&sheet);

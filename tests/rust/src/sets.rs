@@ -1,6 +1,6 @@
 //! "Static sets": K, R, INSTANT, TWICE.
 
-use crate::sheet::{in_order, refuse, Checked, Kind, Sheet, Stmt, INSTANT, TWICE};
+use crate::sheet::{refuse, Checked, Kind, Sheet, Stmt, INSTANT, TWICE};
 use std::collections::BTreeSet;
 
 pub type Codes = BTreeSet<usize>;
@@ -9,6 +9,16 @@ pub type Codes = BTreeSet<usize>;
 pub struct Sets {
     pub k: Vec<Codes>,
     pub r: Vec<Codes>,
+}
+
+/// The statement around each, by its number, and which part of it that is.
+type Ways<'a> = [Option<(&'a Stmt, usize)>];
+
+/// TWICE as it was, and as request 1 has it.
+#[derive(Clone, Copy, PartialEq, Eq)]
+pub enum Rule {
+    Base,
+    Walls,
 }
 
 fn join(a: &Codes, b: &Codes) -> Codes {
@@ -106,8 +116,21 @@ impl Sets {
         both
     }
 
-    /// The climb from one statement through those around it: whether a loop is reached with 0 in C.
-    fn climbs_to_fault(&self, ways: &[Option<(&Stmt, usize)>], x: &Stmt) -> bool {
+    /// "starting its body may start X in the same instant: going down to X, a right side of a sequence is reached only if its left has 0 in K"
+    fn may_start(&self, ways: &Ways, body: &Stmt, x: &Stmt) -> bool {
+        let mut at = x;
+        while at.number != body.number {
+            let (around, side) = ways[at.number].expect("x lies in the body");
+            if around.kind == Kind::Sequence && side == 1 && !self.k[around.parts[0].number].contains(&0) {
+                return false;
+            }
+            at = around;
+        }
+        true
+    }
+
+    /// The climb from one statement through those around it: whether a loop is reached with 0 in C that is the fault. Before request 1 each such loop was.
+    fn climbs_to_fault(&self, ways: &Ways, x: &Stmt, rule: Rule) -> bool {
         let mut codes = self.r[x.number].clone();
         let mut at = x;
         while let Some((around, side)) = ways[at.number] {
@@ -115,7 +138,8 @@ impl Sets {
                 Kind::Sequence if side == 0 => replace_zero(&codes, &self.k[around.parts[1].number]),
                 Kind::Parallel => self.beside(&codes, &around.parts[1 - side]),
                 Kind::Trap => trap_map(&codes),
-                Kind::Loop if codes.contains(&0) => return true,
+                Kind::Loop if codes.contains(&0) && (rule == Rule::Base || self.may_start(ways, at, x)) => return true,
+                Kind::Loop => replace_zero(&codes, &self.k[at.number]),
                 _ => codes,
             };
             at = around;
@@ -123,23 +147,32 @@ impl Sets {
         false
     }
 
-    /// INSTANT, then TWICE, each at the first statement that has it.
-    pub fn check(&self, sheet: &Sheet) -> Checked<()> {
-        let mut list = Vec::new();
-        in_order(&sheet.root, &mut list);
-        let instant = |p: &&&Stmt| p.kind == Kind::Loop && self.k[p.parts[0].number].contains(&0);
-        if let Some(p) = list.iter().find(instant) {
-            return refuse(INSTANT, p.number);
-        }
-        let mut ways = vec![None; list.len()];
+    /// TWICE, at the first statement that has it.
+    pub fn twice(&self, sheet: &Sheet, rule: Rule) -> Option<usize> {
+        let list = sheet.in_order();
+        let mut ways: Vec<Option<(&Stmt, usize)>> = vec![None; list.len()];
         for &p in &list {
             for (side, part) in p.parts.iter().enumerate() {
                 ways[part.number] = Some((p, side));
             }
         }
-        let twice = |p: &&&Stmt| matches!(p.kind, Kind::Parallel | Kind::Signal) && self.climbs_to_fault(&ways, p);
-        match list.iter().find(twice) {
-            Some(p) => refuse(TWICE, p.number),
+        let fault = |p: &&&Stmt| matches!(p.kind, Kind::Parallel | Kind::Signal) && self.climbs_to_fault(&ways, p, rule);
+        list.iter().find(fault).map(|p| p.number)
+    }
+
+    /// INSTANT, at the first loop that has it.
+    pub fn instant(&self, sheet: &Sheet) -> Option<usize> {
+        let fault = |p: &&&Stmt| p.kind == Kind::Loop && self.k[p.parts[0].number].contains(&0);
+        sheet.in_order().iter().find(fault).map(|p| p.number)
+    }
+
+    /// INSTANT, then TWICE.
+    pub fn check(&self, sheet: &Sheet) -> Checked<()> {
+        if let Some(n) = self.instant(sheet) {
+            return refuse(INSTANT, n);
+        }
+        match self.twice(sheet, Rule::Walls) {
+            Some(n) => refuse(TWICE, n),
             None => Ok(()),
         }
     }

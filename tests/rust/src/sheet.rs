@@ -218,10 +218,18 @@ pub fn read(bytes: &[u8]) -> Checked<Sheet> {
     Ok(Sheet { inputs, outputs, statements, halts, signals, root })
 }
 
-/// All statements of a tree, in reading order.
-pub fn in_order<'a>(p: &'a Stmt, list: &mut Vec<&'a Stmt>) {
+fn in_order<'a>(p: &'a Stmt, list: &mut Vec<&'a Stmt>) {
     list.push(p);
     for part in &p.parts {
         in_order(part, list);
+    }
+}
+
+impl Sheet {
+    /// All statements, in reading order.
+    pub fn in_order(&self) -> Vec<&Stmt> {
+        let mut list = Vec::new();
+        in_order(&self.root, &mut list);
+        list
     }
 }

@@ -2,13 +2,19 @@
 use mathlib.Core.Path.{_∙_}
 use Rattle.bits.specs.Bits.{has}
 use Rattle.sets.specs.Leads.{leadsRight}
-use Rattle.sets.proofs.Leading.{right-means}
+use Rattle.sets.proofs.Leading.{behind-means, right-means}
 use borrow.Author.Needs.{needs}
 use Rattle.sets.proofs.leads_right.Statement.{statement}
 use Rattle.sets.proofs.leads_right.Tie as tie
 
 enum-told : tie.Need-enum-told
 enum-told c = search needs
+
+member-requires : tie.Need-member-requires
+member-requires c κs = search needs
+
+only-if-requires : tie.Need-only-if-requires
+only-if-requires c κs = search needs
 
 enum-told-2 : tie.Need-enum-told-2
 enum-told-2 c = search needs
@@ -20,8 +26,10 @@ leads-parallel-requires : tie.Need-leads-parallel-requires
 leads-parallel-requires c κs = search needs
 
 returns : tie.Need-returns
-unfolding leadsRight
-returns c = λ t m. rw (c .enum-told .given .1)
+returns c =
+    let entry = c .before .before .before .before in
+    λ t m. rw (c .before .before .enum-told .given .1)
+    (c .only-if .ensures ∙ behind-means (entry .args .p) t m (has (entry .args .f)) (c .before .member .ensures))
 
 returns-2 : tie.Need-returns-2
 unfolding leadsRight
@@ -37,6 +45,8 @@ leads-right-spec =
     tie.close
     (tie.spec
     enum-told
+    member-requires
+    only-if-requires
     enum-told-2
     enum-told-3
     leads-parallel-requires
