@@ -12,4 +12,5 @@ pub mod Finite
 pub mod Correctness
 pub mod Coding
 pub mod Promise
+pub mod Chains
 pub mod Samples

@@ -4,3 +4,4 @@ pub mod Finishing
 pub mod Whole
 pub mod Unique
 pub mod OfSheets
+pub mod Exists

@@ -4,3 +4,4 @@ pub mod Hunts
 pub mod Unique
 pub mod Cases
 pub mod ByTest
+pub mod Exists
