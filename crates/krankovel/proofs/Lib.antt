@@ -1,2 +1,4 @@
-pub mod Together
-pub mod EndToEnd
+pub mod Sets
+pub mod Entries
+pub mod Reactions
+pub mod Promise

@@ -1,1 +1,1 @@
-pub mod EndToEnd
+pub mod Promise
