@@ -61,7 +61,7 @@ handed w accepted words room =
     record { answer = rw e; left = rw e }
 
 -- one thing is answered and left
-leaves : {A : Type 0} (entry : A → List ℕ → Type 0) {answer : A} {slice : List ℕ}
+pub leaves : {A : Type 0} (entry : A → List ℕ → Type 0) {answer : A} {slice : List ℕ}
     → ((other : A) (left : List ℕ) → entry other left → entry answer slice → Same other answer left slice) → entry answer slice → Leaves entry answer slice
 leaves entry only ok = record { allowed = ok; alone = λ other left x. let same = only other left x ok in (same .answer, same .left) }
 

@@ -1,4 +1,5 @@
 pub mod Sets
 pub mod Entries
 pub mod Reactions
+pub mod Answering
 pub mod Promise

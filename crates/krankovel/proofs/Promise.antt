@@ -33,8 +33,9 @@ use Rattle.sheet_entries.specs.Sheets.{sheetVerdict, sheetAccepted, Checked}
 use Rattle.sheet_entries.proofs.OneSheetAnswer.{one-checked}
 use Rattle.netlist_entries.specs.Netlists.{netVerdict, netAccepted, NetChecked}
 use Rattle.krankovel.specs.Promise.{Judged, Accepts, ReadBack, Promise}
+use Rattle.krankovel.proofs.Answering.{entries}
 use Rattle.krankovel.proofs.Entries.{net-checked, net-written, net-no-room, net-listed, written, no-room, listed, fitting, does-fit}
-use Rattle.krankovel.proofs.Reactions.{file-ok, cells-ok, reaction-to, runs}
+use Rattle.krankovel.proofs.Reactions.{file-ok, cells-ok, has-reaction, runs}
 
 -- no refusal has number 0
 refused-no : (r : Refusal) → refusalNo r ≡ 0 → ⊥
@@ -102,7 +103,7 @@ module _ {s : List ℕ} {w : Sheet} (ok : Accepted s w) where
         back = net-listed (file-ok ok);
         again = net-written (cells-ok ok);
         fresh = fitting ok 0 (fresh-fits (w .root));
-        reacts = λ state small f. reaction-to ok state small (does-fit ok state f);
+        reacts = λ state small f. has-reaction ok state small (does-fit ok state f);
         runs = λ state small f. runs ok state small (does-fit ok state f);
       }
 
@@ -146,4 +147,4 @@ module _ (I O : ℕ) (words : List ℕ) where
           subst (ReadBack I O words) (sym (e ∙ count)) (back (subst (λ (n : Netlist). NetChecks (judgeCells I O words) (netlist n)) same ok))
 
 pub promise : Promise
-promise = record { judged = judged; accepted = accepted; read-back = read-back }
+promise = record { entries = entries; judged = judged; accepted = accepted; read-back = read-back }

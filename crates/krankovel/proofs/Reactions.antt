@@ -52,7 +52,7 @@ use Rattle.netlist_entries.specs.Netlists.{netVerdict, netAccepted, netEvents, 
 use Rattle.netlist_entries.proofs.OneNetAnswer.{one-net-reacted-many, one-net-reacted}
 use Rattle.compile_entries.proofs.CompileEntries.{accepted-few}
 use Rattle.compile_entries.proofs.CellsBack.{sheet-handed-in}
-use Rattle.krankovel.specs.Promise.{Answers, fileOf, cellsOf, ofNetlist, Reacts, Reaction-to, Clocks, ended as no-clock, goes as clock, asking, telling, Runs}
+use Rattle.krankovel.specs.Promise.{Answers, fileOf, cellsOf, ofNetlist, Reacts, HasReaction, Clocks, ended as no-clock, goes as clock, asking, telling, Runs}
 use Rattle.krankovel.proofs.Sets.{small, one-set, one-room, reacted-once}
 use Rattle.krankovel.proofs.Entries.{fitting}
 
@@ -199,20 +199,20 @@ module _ {s : List ℕ} {w : Sheet} (ok : Accepted s w) where
             (net-ran (one state event) one-own (one-room state event) was (r .state-taken) net-run) in
             record { allowed = done; alone = λ other x. one-net-reacted found state event x done }
 
-    pub reaction-to : Reaction-to s w own state event
-    reaction-to = record { emissions = emissions; outputs = r .outputs; next = r .next; is = reacts }
+    pub has-reaction : HasReaction s w own state event
+    has-reaction = record { emissions = emissions; outputs = r .outputs; next = r .next; is = reacts }
 
   -- Many.
-  record Course (state : ℕ) (events : List ℕ) : Type 0 where
-    emitted : List ℕ
-    shown : List ℕ
-    passed : List ℕ
-    clocks : Clocks s w own state events emitted shown passed
-    moments : Steps (Moment t) state events emitted passed
-    nets : Steps (NetClock w) state events shown passed
-    rules : Steps (RuleClock w) state events shown passed
+  pub record Course (state : ℕ) (events : List ℕ) : Type 0 where
+    pub emitted : List ℕ
+    pub shown : List ℕ
+    pub passed : List ℕ
+    pub clocks : Clocks s w own state events emitted shown passed
+    pub moments : Steps (Moment t) state events emitted passed
+    pub nets : Steps (NetClock w) state events shown passed
+    pub rules : Steps (RuleClock w) state events shown passed
 
-  course : (events : List ℕ) (state : ℕ) → state < 2 ^ width → fits (has state) t ≡ true → each (eventOk I) events ≡ true → Course state events
+  pub course : (events : List ℕ) (state : ℕ) → state < 2 ^ width → fits (has state) t ≡ true → each (eventOk I) events ≡ true → Course state events
   unfolding each
   course [] state h fit all = record { emitted = []; shown = []; passed = []; clocks = no-clock; moments = ended; nets = ended; rules = ended }
   course (e ∷ es) state h fit all =

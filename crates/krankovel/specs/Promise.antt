@@ -12,7 +12,7 @@ use Rattle.number.specs.declared.Refusal.the-variants.{Cycle, Buffer}
 use Rattle.number.specs.declared.SignalNo.{SignalNo}
 use Rattle.number.specs.Counts.{ofCell}
 use Rattle.number.specs.Refusals.{fault}
-use Rattle.bits.specs.Bits.{has, signalsIn, width, setsIn, columnOf}
+use Rattle.bits.specs.Bits.{has, signalsIn, width, setsIn, columnOf, bitsOf}
 use Rattle.sheet.specs.Stmt.{size}
 use Rattle.sheet.specs.Read.{Sheet, sheet, faulty}
 use Rattle.rules.specs.Rules.{Signals, Outcome}
@@ -102,6 +102,51 @@ cellsOf w = map word (sheetNetlist w)
 abbrev pub ofNetlist : Answer → Answer
 ofNetlist a = acceptance 0 (a .cells)
 
+-- Demand 1. "Every public entry answers, or refuses with the number and place the paper fixes": for every argument the contract allows one answer.
+pub record Answered {A : Type 0} (entry : A → Type 0) : Type 0 where
+  pub answer : A
+  pub is : Answers entry answer
+
+-- "and after a refusal a lent buffer holds what it held."
+pub record Lent {A : Type 0} (number : A → ℕ) (entry : A → List ℕ → Type 0) (slice : List ℕ) : Type 0 where
+  pub answer : A
+  pub left : List ℕ
+  pub is : Leaves entry answer left
+  pub kept : (number answer ≡ 0 → ⊥) → left ≡ slice
+
+-- .. and so do the two slices that a run is lent; "any refusal returns the state handed in"
+pub record LentTwo (entry : Asked → Told → Type 0) (ask : Asked) : Type 0 where
+  pub told : Told
+  pub is : Answers (entry ask) told
+  pub signals : (told .course .number ≡ 0 → ⊥) → told .signals ≡ ask .signals
+  pub states : (told .course .number ≡ 0 → ⊥) → told .states ≡ ask .states
+  pub state : (told .course .number ≡ 0 → ⊥) → told .course .state ≡ bitsOf (ask .state)
+
+-- "a refusal's counts and outputs are 0"
+pub record Returned (entry : Reaction → Type 0) (state : ℕ) : Type 0 where
+  pub answer : Reaction
+  pub is : Answers entry answer
+  pub signals : (answer .number ≡ 0 → ⊥) → answer .signals ≡ bitsOf 0
+  pub state-back : (answer .number ≡ 0 → ⊥) → answer .state ≡ bitsOf state
+
+-- "Sheets, netlist files, events and states may hold anything. .. No caller tests beforehand.": all arguments, a state being as wide as one. The entries `read`,
+-- `rest` and `Table::reorder` are not among them: their contracts are equations.
+pub record Entries : Type 0 where
+  pub of-check : (s : List ℕ) → Answered (check s)
+  pub of-fits : (s : List ℕ) (state : ℕ) → Answered (fits s state)
+  pub of-compile : (s buffer : List ℕ) → Lent (λ r. r .number) (compile s buffer) buffer
+  pub of-compile-cells : (s words : List ℕ) → Lent (λ r. r .number) (compile-cells s words) words
+  pub of-react : (s : List ℕ) (state event : ℕ) → state < 2 ^ width → Returned (react s state event) state
+  pub of-react-many : (s : List ℕ) (ask : Asked) → ask .state < 2 ^ width → LentTwo (react-many s) ask
+  pub of-check-file : (file : List ℕ) → Answered (check-file file)
+  pub of-read-file : (file words : List ℕ) → Lent (λ r. r .number) (read-file file words) words
+  pub of-react-file : (file : List ℕ) (state event : ℕ) → Returned (react-file file state event) state
+  pub of-react-file-many : (file : List ℕ) (ask : Asked) → LentTwo (react-file-many file) ask
+  pub of-check-cells : (I O : ℕ) (words : List ℕ) → Answered (check-cells I O words)
+  pub of-write-cells : (I O : ℕ) (words buffer : List ℕ) → Lent (λ r. r .number) (write-cells I O words buffer) buffer
+  pub of-react-cells : (I O : ℕ) (words : List ℕ) (state event : ℕ) → Returned (react-cells I O words state event) state
+  pub of-react-cells-many : (I O : ℕ) (words : List ℕ) (ask : Asked) → LentTwo (react-cells-many I O words) ask
+
 -- Demand 2. "A program is refused only for the faults the paper lists.": the faults 1 to 11, which `judge` finds, then a cycle; nothing else.
 pub record Judged (s : List ℕ) : Type 0 where
   pub answer : Answer
@@ -132,7 +177,7 @@ pub record Reacts (s : List ℕ) (w : Sheet) (a : Answer) (state event emissions
   pub outputs-small : outputs < 2 ^ width
   pub next-small : next < 2 ^ width
 
-pub record Reaction-to (s : List ℕ) (w : Sheet) (a : Answer) (state event : ℕ) : Type 0 where
+pub record HasReaction (s : List ℕ) (w : Sheet) (a : Answer) (state event : ℕ) : Type 0 where
   pub emissions : ℕ
   pub outputs : ℕ
   pub next : ℕ
@@ -190,7 +235,7 @@ pub record Accepts (s : List ℕ) (a : Answer) : Type 0 where
       → Leaves (write-cells (read .inputs) (read .outputs) (cellsOf read) buffer) (ofNetlist a) (sets buffer 0 (fileOf read))
   -- "For every accepted program, every state that fits it and every event of its own inputs"; and "from a fresh start"
   pub fresh : Answers (fits s 0) a
-  pub reacts : (state : ℕ) → state < 2 ^ width → fits s state a → (event : ℕ) → eventOk (read .inputs) event ≡ true → Reaction-to s read a state event
+  pub reacts : (state : ℕ) → state < 2 ^ width → fits s state a → (event : ℕ) → eventOk (read .inputs) event ≡ true → HasReaction s read a state event
   pub runs : (state : ℕ) → state < 2 ^ width → fits s state a → (events : List ℕ) → eventsOk (read .inputs) events ≡ true → Runs s read a state events
 
 -- "A netlist written to a file reads back as the same cells.", of all I, O and words that `check_cells` accepts with the answer a: word for word.
@@ -202,6 +247,7 @@ pub record ReadBack (I O : ℕ) (words : List ℕ) (a : Answer) : Type 0 where
 
 -- The promise.
 pub record Promise : Type 0 where
+  pub entries : Entries
   pub judged : (s : List ℕ) → Judged s
   pub accepted : (s : List ℕ) (a : Answer) → check s a → a .number ≡ 0 → Accepts s a
   pub read-back : (I O : ℕ) (words : List ℕ) (a : Answer) → check-cells I O words a → a .number ≡ 0 → ReadBack I O words a
