@@ -1,11 +1,10 @@
 -- A run of the paper's rules from any state that fits is a chain of 004's transitions, with the same outputs.
-use mathlib.Core.Path.{_≡_, refl, sym, _∙_, ap, subst, fun-ext}
+use mathlib.Core.Path.{_≡_, sym, _∙_, ap, subst, fun-ext}
 use mathlib.Core.Bool.{Bool, true, false, _&&_, _||_}
 use mathlib.Core.List.{List, _∷_, map}
-use Prim.Native.Nat.{ℕ, _+_, _<_, _≤_}
+use Prim.Native.Nat.{ℕ, _+_, _<_}
 use native.Mathlib.Omega.{arith}
 use native.Mathlib.Decide.{decLt}
-use lib.Dec.{ltb, leb}
 use borrow.Author.Tests.{lt-ltb, le-ltb, le-leb, lt-leb, ne-eqb}
 use Rattle.number.specs.declared.SignalNo.{SignalNo}
 use Rattle.number.specs.Counts.{ofSignal}
@@ -21,7 +20,7 @@ use Rattle.run.specs.Many.{Steps, ended as no-event, goes as one-event, each}
 use Rattle.run.proofs.Words.{event-no-tick, event-own}
 use Rattle.compiler.specs.Check.{Accepted}
 use Rattle.agreement.specs.Words.{RuleClock}
-use Rattle.agreement.proofs.Admitted.{Admitted, admitted}
+use Rattle.agreement.proofs.Admitted.{admitted}
 use Rattle.agreement.proofs.Made.{not-emitted}
 use Rattle.berry.specs.Modules.{bodyIn, Chain, ended, goes, outputsOf, moveOn, Faithful}
 use Rattle.berry.proofs.Promise.{faithful}
@@ -36,7 +35,8 @@ module _ {bytes : List ℕ} {w : Sheet} (ok : Accepted bytes w) where
   abbrev t : Stmt
   t = w .root
 
-  -- the signals below 1+I+O that are emitted are the outputs that are present: neither tick nor an input is emitted, and an output is nothing else
+  -- the signals below 1+I+O that are emitted are the outputs that are present: neither tick nor an input is emitted, and an output is
+  -- nothing else
   module _ (J E : Signals) (S : State) (event : Event I J) (s : SignalNo) where
     abbrev e : Bool
     e = (react E S t) .emits s

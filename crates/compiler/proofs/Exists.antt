@@ -1,9 +1,8 @@
 -- Every list of bytes has an answer, and where no cell is on a cycle it is acceptance.
 use mathlib.Core.Path.{_≡_, refl}
 use mathlib.Core.List.{List}
-use Prim.Native.Nat.{ℕ, _+_, _≤_}
+use Prim.Native.Nat.{ℕ, _+_}
 use native.Mathlib.Omega.{arith}
-use lib.ListN.{length}
 use Rattle.number.specs.declared.CellNo.{CellNo}
 use Rattle.number.specs.declared.Refusal.the-variants.{Cycle as CycleFault}
 use Rattle.number.specs.Counts.{ofCell}

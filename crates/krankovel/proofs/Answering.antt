@@ -1,26 +1,22 @@
 -- Demand 1: every entry has one answer for all arguments, and a refusal leaves what was lent as it was.
-use mathlib.Core.Path.{_≡_, refl, sym, ap, _∙_, subst}
-use mathlib.Core.Bool.{Bool, true, false, _&&_}
-use mathlib.Core.List.{List, [], _∷_, map}
+use mathlib.Core.Path.{_≡_, refl, ap, _∙_}
+use mathlib.Core.Bool.{Bool, true, false}
+use mathlib.Core.List.{List, [], _∷_}
 use Prim.Native.Nat.{ℕ, _+_, _^_, _<_, _≤_}
 use native.Mathlib.Omega.{arith}
 use lib.Dec.{ltb, leb}
-use lib.ListN.{length, take, List·getD-eq-default}
-use lib.Seq.{take-all}
+use lib.ListN.{take, List·getD-eq-default}
 use borrow.Author.Tests.{leb-true}
 use Rattle.number.specs.declared.CellNo.{CellNo}
-use Rattle.number.specs.declared.Fault.{Fault}
-use Rattle.number.specs.declared.SignalNo.{SignalNo}
 use Rattle.number.specs.Counts.{signalNo, ofSignal}
 use Rattle.number.proofs.Bools.{and-left, and-right, off}
 use Rattle.limits.specs.Limits.{maxSignals, maxRegisters}
 use Rattle.bits.specs.Bits.{has, signalsIn, words, width, isWhole, wholeIn, wordsOf, setsIn, bitsOf}
-use Rattle.sheet.specs.Read.{Sheet, SheetOutcome, sheet, faulty}
+use Rattle.sheet.specs.Read.{SheetOutcome, sheet, faulty}
 use Rattle.sets.specs.Words.{wordOf}
 use Rattle.sets.proofs.Columns.{has-word}
 use Rattle.rules.specs.States.{fits}
-use Rattle.cells.specs.declared.Cell.{Cell}
-use Rattle.cells.specs.Values.{Solves, registers, operands, nextOf}
+use Rattle.cells.specs.Values.{Solves, operands, nextOf}
 use Rattle.cells.specs.Netlist.{Netlist, WellFormed}
 use Rattle.cells.proofs.Counting.{operands-length}
 use Rattle.order.specs.Paths.{Ordered}
@@ -34,34 +30,32 @@ use Rattle.netlists.specs.Words.{judgeCells}
 use Rattle.netlists.specs.Check.{NetChecks, refused as net-refused, cyclic as net-cyclic, accepted as in-order}
 use Rattle.netlists.proofs.Exists as netlists
 use Rattle.netlists.proofs.Words.{cells-right}
-use Rattle.compiler.specs.Check.{Checks, Accepted}
+use Rattle.compiler.specs.Check.{Checks}
 use Rattle.compiler.proofs.Exists as sheets
-use Rattle.interpreter.specs.Interpret.{Moment}
 use Rattle.verdicts.specs.declared.Answer.{Answer}
-use Rattle.verdicts.specs.declared.Course.{Course}
-use Rattle.verdicts.specs.declared.Listing.{Listing}
 use Rattle.verdicts.specs.declared.Reaction.{Reaction}
 use Rattle.verdicts.specs.Answers.{Verdict, passes, stops, verdict, answerOf, refusal, withState, bufferAfter, reactionOf}
 use Rattle.verdicts.specs.Runs.{Asked, Told, needed, hasRoom, Runs, one, Once}
 use Rattle.verdicts.proofs.Running.{all-pass, ran-stopped, ran-on, one-once}
-use Rattle.sheet_entries.specs.Sheets.{sheetVerdict, sheetAccepted, Checked, sheetFits, Fitting, sheetEvents, sheetStep, SheetRuns, ReactedMany}
+use Rattle.sheet_entries.specs.Sheets.{sheetVerdict, sheetAccepted, Checked, sheetFits, Fitting, sheetEvents, sheetStep, ReactedMany}
 use Rattle.sheet_entries.proofs.OneSheetAnswer.{one-checked, one-fitting, one-reacted-many}
-use Rattle.netlist_entries.specs.Netlists.{netVerdict, netAccepted, NetChecked, netEvents, netState, netStep, NetRuns, NetReactedMany}
+use Rattle.netlist_entries.specs.Netlists.{netVerdict, netAccepted, NetChecked, netEvents, netState, netStep, NetReactedMany}
 use Rattle.netlist_entries.specs.Files.{fileOf as filedAs, writeVerdict, NetWritten}
 use Rattle.netlist_entries.specs.Cells.{wordsOf as wordsIn, listingOf, NetListed}
 use Rattle.netlist_entries.proofs.OneNetAnswer.{one-net-checked, one-net-written, one-net-listed, one-net-reacted-many}
 use Rattle.compile_entries.specs.Compile.{sheetNet, Written, Listed}
 use Rattle.compile_entries.proofs.OneCompileAnswer.{one-written, one-listed}
-use Rattle.krankovel.specs.Promise.{Answers, Answered, Lent, LentTwo, Returned, Entries, telling}
+use Rattle.krankovel.specs.Promise.{Answered, Lent, LentTwo, Returned, Entries, telling}
 use Rattle.krankovel.proofs.Entries.{leaves}
-use Rattle.krankovel.proofs.Reactions.{course}
+use Rattle.krankovel.proofs.Reactions.{ran-of, course}
 
 -- two constructors are never equal
 never : {A : Type 0} → _≡_ {A = ℕ} 0 1 → A
 never e = absurd (omega arith)
 
 -- what a refusal leaves, where an acceptance has number 0
-kept : (v : Verdict) (accepted : Answer) (file buffer : List ℕ) → (v ≡ passes → accepted .number ≡ 0) → (answerOf v accepted .number ≡ 0 → ⊥)
+kept : (v : Verdict) (accepted : Answer) (file buffer : List ℕ) → (v ≡ passes → accepted .number ≡ 0)
+    → (answerOf v accepted .number ≡ 0 → ⊥)
     → bufferAfter v file buffer ≡ buffer
 unfolding answerOf bufferAfter
 kept passes accepted file buffer is-0 n = absurd (n (is-0 refl))
@@ -155,7 +149,10 @@ module _ {found : FileOutcome} (so : netlists.Answered found) where
   of-net-check : Answered (NetChecked found)
   of-net-check =
       let did : NetChecked found (answerOf (netVerdict o) (netAccepted o)) = record { outcome = o; checks = so .checks; answer = refl } in
-      record { answer = answerOf (netVerdict o) (netAccepted o); is = record { allowed = did; alone = λ other x. one-net-checked found x did } }
+      record {
+        answer = answerOf (netVerdict o) (netAccepted o);
+        is = record { allowed = did; alone = λ other x. one-net-checked found x did };
+      }
 
   of-net-write : (buffer : List ℕ) → Lent (λ r. r .number) (λ r left. NetWritten found r buffer left) buffer
   of-net-write buffer =
@@ -198,7 +195,7 @@ tells {accepted = accepted} passes {ask} run is-0 =
     let r = run refl in
     record {
       told = telling accepted ask (r .shown) (r .passed);
-      ran = ran-on refl (record { shown = r .shown; passed = r .passed; steps = r .steps; signals-left = refl; states-left = refl; ends = refl });
+      ran = ran-on refl (ran-of (r .steps));
       signals = λ n. absurd (n (is-0 refl));
       states = λ n. absurd (n (is-0 refl));
       state = λ n. absurd (n (is-0 refl));
@@ -241,7 +238,7 @@ module _ (s : List ℕ) (ask : Asked) (small : ask .state < 2 ^ width) where
   sheet-run (sheet w) ok e =
       let all = all-pass (eventsOk (w .inputs) (ask .events)) (fits (has (ask .state)) (w .root)) (hasRoom ask) (needed ask) e in
       let events : List ℕ = setsIn (ask .events) in
-      let own : each (eventOk (w .inputs)) events ≡ true = and-right (isWhole (ask .events)) (each (eventOk (w .inputs)) events) (all .events-pass) in
+      let own = and-right (isWhole (ask .events)) (each (eventOk (w .inputs)) events) (all .events-pass) in
       let c = course ok events (ask .state) small (all .state-passes) own in
       record { shown = c .emitted; passed = c .passed; steps = c .moments }
 
@@ -303,7 +300,8 @@ module _ {w : Netlist} (sound : WellFormed w) {order : List ℕ} (ordered : Orde
       next-few : (b : ℕ) → maxRegisters ≤ b → nextOf v (w .cells) b ≡ false
       next-few b l = List·getD-eq-default (operands v (w .cells)) false {n = b} (omega (arith, operands-length v (w .cells), sound .bits))
 
-  clocks : (events : List ℕ) (state : ℕ) → (os : List ℕ) × (ns : List ℕ) × Steps (Clock (w .inputs) (w .outputs) (w .cells)) state events os ns
+  clocks : (events : List ℕ) (state : ℕ)
+      → (os : List ℕ) × (ns : List ℕ) × Steps (Clock (w .inputs) (w .outputs) (w .cells)) state events os ns
   clocks [] state = ([], [], ended)
   clocks (e ∷ es) state =
       let c = a-clock state e in
@@ -358,7 +356,8 @@ entries =
       of-check-cells = λ I O words. of-net-check (netlists.cells-answered I O words);
       of-write-cells = λ I O words. of-net-write (netlists.cells-answered I O words);
       of-react-cells = λ I O words state event.
-          returns (NetReactedMany (judgeCells I O words)) (one-net-reacted-many (judgeCells I O words)) (cells-runs I O words (one state event));
+          let found : FileOutcome = judgeCells I O words in
+          returns (NetReactedMany found) (one-net-reacted-many found) (cells-runs I O words (one state event));
       of-react-cells-many = cells-runs;
     }
   where

@@ -1,42 +1,39 @@
--- What the entries that check, compile, read and write answer of an accepted sheet, and of accepted cells: the contract allows it, and allows nothing else.
-use mathlib.Core.Path.{_≡_, refl, sym, ap, _∙_}
+-- What the entries that check, compile, read and write answer of an accepted sheet, and of accepted cells: the contract allows it, and
+-- allows nothing else.
+use mathlib.Core.Path.{_≡_, refl, ap}
 use mathlib.Core.Bool.{Bool, true, false}
 use mathlib.Core.List.{List, map}
-use Prim.Native.Nat.{ℕ, _^_, _<_, _≤_}
+use Prim.Native.Nat.{ℕ, _<_, _≤_}
 use native.Mathlib.Omega.{arith}
 use lib.Dec.{leb}
-use lib.ListN.{length, length-map}
+use lib.ListN.{length}
 use lib.Seq.{sets}
 use borrow.Author.Tests.{le-leb, lt-leb}
 use Rattle.number.specs.declared.Refusal.the-variants.{Buffer}
 use Rattle.number.specs.Number.{pick}
 use Rattle.number.specs.Refusals.{fault}
-use Rattle.bits.specs.Bits.{has, width}
-use Rattle.sheet.specs.Stmt.{size}
+use Rattle.bits.specs.Bits.{has}
 use Rattle.sheet.specs.Read.{Sheet, sheet}
 use Rattle.rules.specs.States.{fits}
 use Rattle.cells.specs.Words.{word}
 use Rattle.cells.specs.Netlist.{Netlist}
-use Rattle.builder.specs.Netlist.{sheetNetlist, sheetFile}
+use Rattle.builder.specs.Netlist.{sheetFile}
 use Rattle.files.specs.File.{fileBytes}
-use Rattle.files.specs.Read.{FileOutcome, netlist, readFile}
-use Rattle.netlists.specs.Words.{judgeCells}
+use Rattle.files.specs.Read.{FileOutcome, netlist}
 use Rattle.netlists.specs.Check.{NetChecks}
 use Rattle.compiler.specs.Check.{Accepted}
 use Rattle.compiler.proofs.Unique.{one-check}
-use Rattle.agreement.proofs.WordRuns.{fresh-fits}
 use Rattle.verdicts.specs.declared.Answer.{Answer}
-use Rattle.verdicts.specs.declared.Listing.{Listing}
-use Rattle.verdicts.specs.Answers.{Verdict, passes, stops, verdict, answerOf, refusal, acceptance, withSignals, bufferAfter}
+use Rattle.verdicts.specs.Answers.{passes, verdict, answerOf, refusal, acceptance, withSignals, bufferAfter}
 use Rattle.sheet_entries.specs.Sheets.{sheetVerdict, sheetAccepted, sheetFits, Fitting}
-use Rattle.sheet_entries.proofs.OneSheetAnswer.{one-checked, one-fitting}
+use Rattle.sheet_entries.proofs.OneSheetAnswer.{one-fitting}
 use Rattle.netlist_entries.specs.Netlists.{netVerdict, netAccepted, NetChecked}
 use Rattle.netlist_entries.specs.Files.{fileOf as filedAs, writeVerdict, Filed, NetWritten}
 use Rattle.netlist_entries.specs.Cells.{wordsOf, listingOf, Handed, NetListed}
 use Rattle.netlist_entries.proofs.OneNetAnswer.{Same, one-net-checked, one-net-written, one-net-listed}
 use Rattle.compile_entries.specs.Compile.{sheetNet, Written, Listed}
 use Rattle.compile_entries.proofs.OneCompileAnswer.{one-written, one-listed}
-use Rattle.krankovel.specs.Promise.{Answers, Leaves, fileOf, cellsOf, ofNetlist}
+use Rattle.krankovel.specs.Promise.{Answers, Leaves, fileOf, cellsOf}
 
 -- a netlist's file, where there is room for it and where there is not
 module _ (w : Netlist) (accepted : Answer) (buffer : List ℕ) where
@@ -46,7 +43,8 @@ module _ (w : Netlist) (accepted : Answer) (buffer : List ℕ) where
       let e : leb (length (fileBytes w)) (length buffer) ≡ true = le-leb _ _ room in
       record { answer = rw e; left = rw e }
 
-  not-filed : length buffer < length (fileBytes w) → Filed (netlist w) accepted (refusal (fault Buffer (length (fileBytes w)))) buffer buffer
+  not-filed : length buffer < length (fileBytes w)
+      → Filed (netlist w) accepted (refusal (fault Buffer (length (fileBytes w)))) buffer buffer
   unfolding filedAs writeVerdict verdict netVerdict answerOf bufferAfter pick
   not-filed short =
       let e : leb (length (fileBytes w)) (length buffer) ≡ false = lt-leb _ _ short in
@@ -62,7 +60,8 @@ handed w accepted words room =
 
 -- one thing is answered and left
 pub leaves : {A : Type 0} (entry : A → List ℕ → Type 0) {answer : A} {slice : List ℕ}
-    → ((other : A) (left : List ℕ) → entry other left → entry answer slice → Same other answer left slice) → entry answer slice → Leaves entry answer slice
+    → ((other : A) (left : List ℕ) → entry other left → entry answer slice → Same other answer left slice) → entry answer slice
+    → Leaves entry answer slice
 leaves entry only ok = record { allowed = ok; alone = λ other left x. let same = only other left x ok in (same .answer, same .left) }
 
 -- an accepted netlist, in either form
@@ -102,7 +101,8 @@ module _ {s : List ℕ} {w : Sheet} (ok : Accepted s w) where
   abbrev own : Answer
   own = sheetAccepted (sheet w)
 
-  pub written : (buffer : List ℕ) → length (fileOf w) ≤ length buffer → Leaves (λ r left. Written s r buffer left) own (sets buffer 0 (fileOf w))
+  pub written : (buffer : List ℕ) → length (fileOf w) ≤ length buffer
+      → Leaves (λ r left. Written s r buffer left) own (sets buffer 0 (fileOf w))
   unfolding sheetNet
   written buffer room =
       leaves (λ r left. Written s r buffer left) (λ other left. one-written s buffer)
@@ -133,6 +133,7 @@ module _ {s : List ℕ} {w : Sheet} (ok : Accepted s w) where
   unfolding sheetVerdict sheetFits sheetAccepted verdict answerOf pick
   does-fit state f = go (fits (has state) (w .root)) refl (rw (one-check s (f .checks) ok) at (f .answer))
     where
-      go : (b : Bool) → fits (has state) (w .root) ≡ b → own ≡ answerOf (verdict passes true b true 0) own → fits (has state) (w .root) ≡ true
+      go : (b : Bool) → fits (has state) (w .root) ≡ b → own ≡ answerOf (verdict passes true b true 0) own
+          → fits (has state) (w .root) ≡ true
       go true e h = e
       go false e h = let z : _≡_ {A = ℕ} 0 14 = ap (λ (x : Answer). x .number) h in absurd (omega arith)

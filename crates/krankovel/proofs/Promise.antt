@@ -1,30 +1,23 @@
 -- The promise holds: it is proved of the definitions, and assumes nothing.
 use mathlib.Core.Path.{_≡_, refl, sym, ap, _∙_, subst}
-use mathlib.Core.List.{List, map}
+use mathlib.Core.List.{List}
 use Prim.Native.Nat.{ℕ}
 use native.Mathlib.Omega.{arith}
-use lib.ListN.{length, length-map}
-use Rattle.number.specs.declared.CellNo.{CellNo}
-use Rattle.number.specs.declared.Fault.{Fault}
+use lib.ListN.{length}
 use Rattle.number.specs.declared.Refusal.{Refusal}
-use Rattle.number.specs.declared.Refusal.the-variants.{Short, Number, Kind, Count, Scope, Emit, Exit, Extra, Instant, Twice, Room, Cycle, Event, State, Buffer, Cell}
+use Rattle.number.specs.declared.Refusal.the-variants.{Short, Number, Kind, Count, Scope, Emit, Exit, Extra, Instant, Twice, Room, Cycle}
+use Rattle.number.specs.declared.Refusal.the-variants.{Event, State, Buffer, Cell}
 use Rattle.number.specs.declared.Refusal.the-variants.{Word, Name, Cover, Order, Line, States}
-use Rattle.number.specs.Counts.{ofCell}
-use Rattle.number.specs.Refusals.{refusalNo, fault}
-use Rattle.sheet.specs.Stmt.{size}
+use Rattle.number.specs.Refusals.{refusalNo}
 use Rattle.sheet.specs.Read.{Sheet, SheetOutcome, sheet, faulty}
-use Rattle.cells.specs.Words.{word, cellsOf as meant, cellIn}
 use Rattle.cells.specs.Netlist.{Netlist, netlistOf}
-use Rattle.builder.specs.Netlist.{sheetNetlist, sheetFile}
-use Rattle.order.specs.Paths.{OnCycle, Lowest}
 use Rattle.files.specs.File.{fileBytes}
 use Rattle.files.specs.Read.{FileOutcome, netlist, faulty as no-netlist, readFile}
 use Rattle.netlists.specs.Words.{judgeCells}
 use Rattle.netlists.specs.Check.{NetChecks, accepted as in-order}
 use Rattle.netlists.proofs.Words.{cells-right}
 use Rattle.netlists.proofs.Running.{file-accepted}
-use Rattle.compiler.specs.Check.{judge, Checks, refused, cyclic, Accepted}
-use Rattle.compiler.proofs.Unique.{one-check}
+use Rattle.compiler.specs.Check.{Checks, refused, cyclic, Accepted}
 use Rattle.compiler.proofs.Exists as sheets
 use Rattle.agreement.proofs.WordRuns.{fresh-fits}
 use Rattle.verdicts.specs.declared.Answer.{Answer}
@@ -143,8 +136,9 @@ module _ (I O : ℕ) (words : List ℕ) where
       go (no-netlist f) ok e = absurd (refused-no (f .refusal) (sym (ap (λ (x : Answer). x .number) e) ∙ is-0))
       go (netlist w) ok e =
           let same : w ≡ net = the-net ok in
-          let count : acceptance 0 (length (w .cells)) ≡ acceptance 0 (length (net .cells)) = ap (λ (n : Netlist). acceptance 0 (length (n .cells))) same in
-          subst (ReadBack I O words) (sym (e ∙ count)) (back (subst (λ (n : Netlist). NetChecks (judgeCells I O words) (netlist n)) same ok))
+          let count = ap (λ (n : Netlist). acceptance 0 (length (n .cells))) same in
+          let ok-net = subst (λ (n : Netlist). NetChecks (judgeCells I O words) (netlist n)) same ok in
+          subst (ReadBack I O words) (sym (e ∙ count)) (back ok-net)
 
 pub promise : Promise
 promise = record { entries = entries; judged = judged; accepted = accepted; read-back = read-back }

@@ -1,32 +1,32 @@
--- One reaction of an accepted sheet from a state that fits, and runs: what the three engines answer, and that it is what the rules, the netlist and 004 say.
-use mathlib.Core.Path.{_≡_, refl, sym, ap, _∙_, subst, fun-ext}
+-- One reaction of an accepted sheet from a state that fits, and runs: what the three engines answer, and that it is what the rules, the
+-- netlist and 004 say.
+use mathlib.Core.Path.{_≡_, refl, sym, ap, _∙_}
 use mathlib.Core.Bool.{Bool, true, false, not, _&&_}
-use mathlib.Core.List.{List, [], _∷_, map}
+use mathlib.Core.List.{List, [], _∷_}
 use Prim.Native.Nat.{ℕ, _+_, _^_, _<_, _≤_}
 use native.Mathlib.Omega.{arith}
-use native.Mathlib.Decide.{decLt}
 use lib.Dec.{ltb, leb}
-use lib.ListN.{length}
+use lib.Seq.{sets}
 use borrow.Author.Tests.{leb-true}
 use Rattle.number.specs.declared.SignalNo.{SignalNo}
 use Rattle.number.specs.Counts.{signalNo, ofSignal}
 use Rattle.number.specs.Number.{pick}
 use Rattle.number.proofs.Bools.{and-left, and-right, and-both, off}
 use Rattle.limits.specs.Limits.{maxSignals}
-use Rattle.bits.specs.Bits.{has, signalsIn, noneFrom, words, width, isWhole, wordsOf, setsIn}
+use Rattle.bits.specs.Bits.{has, signalsIn, noneFrom, words, width, isWhole, wordsOf, setsIn, columnOf}
 use Rattle.bits.proofs.Whole.{wordsOf-long}
 use Rattle.bits.proofs.None.{none-past}
-use Rattle.sheet.specs.Stmt.{Stmt, localCount}
+use Rattle.sheet.specs.Stmt.{Stmt}
 use Rattle.sheet.specs.Read.{Sheet, sheet}
 use Rattle.sets.specs.Words.{wordOf}
 use Rattle.sets.proofs.Columns.{has-word, word-small}
 use Rattle.rules.specs.Rules.{Signals, Outcome}
-use Rattle.rules.specs.States.{State, react, nextState, fits}
+use Rattle.rules.specs.States.{react, fits}
 use Rattle.cells.specs.Values.{registers}
 use Rattle.cells.specs.Netlist.{Netlist}
 use Rattle.builder.specs.Netlist.{sheetNetlist, sheetFile}
 use Rattle.run.specs.Words.{isOutput, eventOk, stateOk}
-use Rattle.run.specs.Many.{Step, Steps, ended, goes, lastState, each, eventsOk}
+use Rattle.run.specs.Many.{Step, Steps, ended, goes, lastState, each, eventsOk, Ran}
 use Rattle.files.specs.Read.{FileOutcome, netlist, readFile}
 use Rattle.netlists.specs.Words.{judgeCells}
 use Rattle.netlists.specs.Check.{NetChecks, accepted as in-order}
@@ -36,15 +36,14 @@ use Rattle.agreement.specs.Words.{RuleClock, NetClock, WordReaction}
 use Rattle.agreement.proofs.Admitted.{admitted}
 use Rattle.agreement.proofs.Made.{not-emitted}
 use Rattle.agreement.proofs.InWords.{word-reaction, state-ok}
-use Rattle.berry.specs.Modules.{Chain, bodyIn}
 use Rattle.berry.proofs.Promise.{faithful}
 use Rattle.berry.proofs.Chains.{chained}
 use Rattle.interpreter.specs.Interpret.{Moment}
 use Rattle.interpreter.proofs.Interpreting.{accepted-proper}
 use Rattle.interpreter.proofs.Settling.{event-of}
 use Rattle.verdicts.specs.declared.Answer.{Answer}
-use Rattle.verdicts.specs.Answers.{Verdict, passes, verdict, acceptance, withState, reactionOf}
-use Rattle.verdicts.specs.Runs.{Asked, Told, needed, hasRoom, one, Once}
+use Rattle.verdicts.specs.Answers.{verdict, withState, reactionOf}
+use Rattle.verdicts.specs.Runs.{Asked, hasRoom, one, Once}
 use Rattle.verdicts.proofs.Running.{ran-on}
 use Rattle.sheet_entries.specs.Sheets.{sheetVerdict, sheetAccepted, sheetEvents, sheetFits, sheetStep, ReactedMany}
 use Rattle.sheet_entries.proofs.OneSheetAnswer.{one-reacted-many, one-reacted}
@@ -52,9 +51,16 @@ use Rattle.netlist_entries.specs.Netlists.{netVerdict, netAccepted, netEvents, 
 use Rattle.netlist_entries.proofs.OneNetAnswer.{one-net-reacted-many, one-net-reacted}
 use Rattle.compile_entries.proofs.CompileEntries.{accepted-few}
 use Rattle.compile_entries.proofs.CellsBack.{sheet-handed-in}
-use Rattle.krankovel.specs.Promise.{Answers, fileOf, cellsOf, ofNetlist, Reacts, HasReaction, Clocks, ended as no-clock, goes as clock, asking, telling, Runs}
+use Rattle.krankovel.specs.Promise.{Answers, fileOf, cellsOf, ofNetlist, Reacts, HasReaction, Clocks, ended as no-clock}
+use Rattle.krankovel.specs.Promise.{goes as clock, asking, telling, Runs}
 use Rattle.krankovel.proofs.Sets.{small, one-set, one-room, reacted-once}
 use Rattle.krankovel.proofs.Entries.{fitting}
+
+-- what a run leaves in the slices
+pub ran-of : {step : Step} {state : ℕ} {events signals states shown passed : List ℕ} → Steps step state (setsIn events) shown passed
+    → Ran step state events signals (sets signals 0 (columnOf shown)) states (sets states 0 (columnOf passed)) (lastState state passed)
+ran-of {shown = shown} {passed = passed} steps =
+    record { shown = shown; passed = passed; steps = steps; signals-left = refl; states-left = refl; ends = refl }
 
 -- a run that nothing stops
 module _ {s : List ℕ} {w : Sheet} (ok : Accepted s w) where
@@ -86,23 +92,25 @@ module _ {s : List ℕ} {w : Sheet} (ok : Accepted s w) where
   cells-ok = sheet-handed-in ok
 
   module _ (ask : Asked) (events : eventsOk I (ask .events) ≡ true) (room : hasRoom ask ≡ true) {shown passed : List ℕ} where
-    sheet-ran : fits (has (ask .state)) t ≡ true → Steps (Moment t) (ask .state) (setsIn (ask .events)) shown passed → ReactedMany s ask (telling own ask shown passed)
+    sheet-ran : fits (has (ask .state)) t ≡ true → Steps (Moment t) (ask .state) (setsIn (ask .events)) shown passed
+        → ReactedMany s ask (telling own ask shown passed)
     unfolding sheetVerdict sheetEvents sheetFits sheetStep verdict pick
     sheet-ran fit steps =
         record {
           outcome = sheet w;
           checks = ok;
-          answer = ran-on (rw (events, fit, room)) (record { shown = shown; passed = passed; steps = steps; signals-left = refl; states-left = refl; ends = refl });
+          answer = ran-on (rw (events, fit, room)) (ran-of steps);
         }
 
     net-ran : {found : FileOutcome} → NetChecks found (netlist net) → stateOk (registers (sheetNetlist w)) (ask .state) ≡ true
-        → Steps (NetClock w) (ask .state) (setsIn (ask .events)) shown passed → NetReactedMany found ask (telling (ofNetlist own) ask shown passed)
+        → Steps (NetClock w) (ask .state) (setsIn (ask .events)) shown passed
+        → NetReactedMany found ask (telling (ofNetlist own) ask shown passed)
     unfolding netVerdict netEvents netState netStep netAccepted sheetAccepted verdict pick
     net-ran was fit steps =
         record {
           outcome = netlist net;
           checks = was;
-          answer = ran-on (rw (events, fit, room)) (record { shown = shown; passed = passed; steps = steps; signals-left = refl; states-left = refl; ends = refl });
+          answer = ran-on (rw (events, fit, room)) (ran-of steps);
         }
 
     many-by-rules : fits (has (ask .state)) t ≡ true → Steps (Moment t) (ask .state) (setsIn (ask .events)) shown passed
@@ -111,12 +119,14 @@ module _ {s : List ℕ} {w : Sheet} (ok : Accepted s w) where
         let ran = sheet-ran fit steps in record { allowed = ran; alone = λ other x. one-reacted-many s ask other _ x ran }
 
     many-by-net : {found : FileOutcome} → NetChecks found (netlist net) → stateOk (registers (sheetNetlist w)) (ask .state) ≡ true
-        → Steps (NetClock w) (ask .state) (setsIn (ask .events)) shown passed → Answers (NetReactedMany found ask) (telling (ofNetlist own) ask shown passed)
+        → Steps (NetClock w) (ask .state) (setsIn (ask .events)) shown passed
+        → Answers (NetReactedMany found ask) (telling (ofNetlist own) ask shown passed)
     many-by-net {found} was fit steps =
         let ran = net-ran was fit steps in record { allowed = ran; alone = λ other x. one-net-reacted-many found ask other _ x ran }
 
   -- One reaction.
-  module _ (state : ℕ) (state-small : state < 2 ^ width) (fit : fits (has state) t ≡ true) (event : ℕ) (is-own : eventOk I event ≡ true) where
+  module _ (state : ℕ) (state-small : state < 2 ^ width) (fit : fits (has state) t ≡ true) (event : ℕ)
+      (is-own : eventOk I event ≡ true) where
     abbrev r : WordReaction w state event
     r = word-reaction ok state state-small fit event is-own
 
@@ -128,7 +138,9 @@ module _ {s : List ℕ} {w : Sheet} (ok : Accepted s w) where
 
     -- no signal past the last is emitted
     emits-few : (k : ℕ) → maxSignals ≤ k → o .emits (signalNo k) ≡ false
-    emits-few k l = let proper = admitted ok .proper in not-emitted proper E (has state) (signalNo k) (λ a b. omega (arith, proper .signals))
+    emits-few k l =
+        let proper = admitted ok .proper in
+        not-emitted proper E (has state) (signalNo k) (λ a b. omega (arith, proper .signals))
 
     emissions : ℕ
     emissions = wordOf maxSignals (λ k. o .emits (signalNo k))
@@ -147,11 +159,14 @@ module _ {s : List ℕ} {w : Sheet} (ok : Accepted s w) where
         past : (j : ℕ) → width ≤ j → has (r .outputs) j ≡ false
         past j l = off (has (r .outputs) j) (λ on.
             let both : (isOutput I O (signalNo j) && E (signalNo j)) ≡ true = sym (r .rules .shows (signalNo j)) ∙ on in
-            let last = leb-true j (I + O) (and-right (ltb I j) (leb j (I + O)) (and-left (isOutput I O (signalNo j)) (E (signalNo j)) both)) in
+            let is = and-left (isOutput I O (signalNo j)) (E (signalNo j)) both in
+            let last = leb-true j (I + O) (and-right (ltb I j) (leb j (I + O)) is) in
             omega (arith, admitted ok .proper .header))
 
     event-small : event < 2 ^ width
-    event-small = small width event (λ j l. none-past (1 + I) event (and-right (not (has event 0)) (noneFrom (1 + I) event) is-own) j (omega (arith, admitted ok .proper .header)))
+    event-small =
+        let past = and-right (not (has event 0)) (noneFrom (1 + I) event) is-own in
+        small width event (λ j l. none-past (1 + I) event past j (omega (arith, admitted ok .proper .header)))
 
     moment : Moment t state event emissions (r .next)
     moment = record { present = E; agrees = r .rules .agrees; emits = emissions-are; keeps = r .rules .keeps }
@@ -160,7 +175,8 @@ module _ {s : List ℕ} {w : Sheet} (ok : Accepted s w) where
     unfolding each
     one-own =
         let ends : isWhole (wordsOf words event) ≡ true = rw (wordsOf-long words event) in
-        and-both (isWhole (wordsOf words event)) (each (eventOk I) (setsIn (wordsOf words event))) ends (rw (one-set event event-small, is-own))
+        let event-own : each (eventOk I) (setsIn (wordsOf words event)) ≡ true = rw (one-set event event-small, is-own) in
+        and-both (isWhole (wordsOf words event)) (each (eventOk I) (setsIn (wordsOf words event))) ends event-own
 
     reacts : Reacts s w own state event emissions (r .outputs) (r .next)
     reacts =
@@ -193,7 +209,8 @@ module _ {s : List ℕ} {w : Sheet} (ok : Accepted s w) where
             (sheet-ran (one state event) one-own (one-room state event) fit run) in
             record { allowed = done; alone = λ other x. one-reacted s state event x done }
 
-        by-net : {found : FileOutcome} → NetChecks found (netlist net) → Answers (Once (NetReactedMany found) state event) (reactionOf (withState (ofNetlist own) (r .next)) (r .outputs))
+        by-net : {found : FileOutcome} → NetChecks found (netlist net)
+            → Answers (Once (NetReactedMany found) state event) (reactionOf (withState (ofNetlist own) (r .next)) (r .outputs))
         by-net {found} was =
             let done = reacted-once (NetReactedMany found) (ofNetlist own) state event (r .outputs) (r .next) outputs-few
             (net-ran (one state event) one-own (one-room state event) was (r .state-taken) net-run) in
@@ -212,9 +229,11 @@ module _ {s : List ℕ} {w : Sheet} (ok : Accepted s w) where
     pub nets : Steps (NetClock w) state events shown passed
     pub rules : Steps (RuleClock w) state events shown passed
 
-  pub course : (events : List ℕ) (state : ℕ) → state < 2 ^ width → fits (has state) t ≡ true → each (eventOk I) events ≡ true → Course state events
+  pub course : (events : List ℕ) (state : ℕ) → state < 2 ^ width → fits (has state) t ≡ true → each (eventOk I) events ≡ true
+      → Course state events
   unfolding each
-  course [] state h fit all = record { emitted = []; shown = []; passed = []; clocks = no-clock; moments = ended; nets = ended; rules = ended }
+  course [] state h fit all =
+      record { emitted = []; shown = []; passed = []; clocks = no-clock; moments = ended; nets = ended; rules = ended }
   course (e ∷ es) state h fit all =
       let is-own : eventOk I e ≡ true = and-left (eventOk I e) (each (eventOk I) es) all in
       let r : WordReaction w state e = word-reaction ok state h fit e is-own in
@@ -229,7 +248,8 @@ module _ {s : List ℕ} {w : Sheet} (ok : Accepted s w) where
         rules = goes (r .rules) (rest .rules);
       }
 
-  pub runs : (state : ℕ) → state < 2 ^ width → fits (has state) t ≡ true → (events : List ℕ) → eventsOk I events ≡ true → Runs s w own state events
+  pub runs : (state : ℕ) → state < 2 ^ width → fits (has state) t ≡ true → (events : List ℕ) → eventsOk I events ≡ true
+      → Runs s w own state events
   runs state h fit events all =
       let all-own : each (eventOk I) (setsIn events) ≡ true = and-right (isWhole events) (each (eventOk I) (setsIn events)) all in
       let c : Course state (setsIn events) = course (setsIn events) state h fit all-own in

@@ -1,8 +1,9 @@
--- Sets of a state's width and their words: what is written reads back, one event in a slice of its own is that event, and a run over it is a reaction.
-use mathlib.Core.Path.{_≡_, refl, sym, ap, _∙_}
+-- Sets of a state's width and their words: what is written reads back, one event in a slice of its own is that event, and a run over it is
+-- a reaction.
+use mathlib.Core.Path.{_≡_, sym, ap, _∙_}
 use mathlib.Core.Bool.{Bool, true, false}
-use mathlib.Core.List.{List, [], _∷_, append-nil}
-use Prim.Native.Nat.{ℕ, zero, suc, _+_, _*_, _/_, _%_, _^_, _<_, _≤_}
+use mathlib.Core.List.{[], _∷_, append-nil}
+use Prim.Native.Nat.{ℕ, zero, suc, _*_, _/_, _^_, _<_, _≤_}
 use native.Mathlib.Omega.{arith}
 use native.Mathlib.Nat.{div-lt-iff-lt-mul}
 use lib.Dec.{leb}
@@ -35,7 +36,8 @@ unfolding wordsOf wholeIn
 whole-back zero n h = omega arith
 whole-back (suc k) n h =
     let wide : 2 ^ (64 * suc k) ≡ 2 ^ (64 * k) * 2 ^ 64 = ap (λ (m : ℕ). 2 ^ m) (omega arith) ∙ pow-add 2 (64 * k) 64 in
-    let rest : wholeIn (wordsOf k (n / 2 ^ 64)) ≡ n / 2 ^ 64 = whole-back k (n / 2 ^ 64) ((div-lt-iff-lt-mul {k = 2 ^ 64} (pow-pos 64)) .1 (rw wide at h)) in
+    let less : n / 2 ^ 64 < 2 ^ (64 * k) = (div-lt-iff-lt-mul {k = 2 ^ 64} (pow-pos 64)) .1 (rw wide at h) in
+    let rest : wholeIn (wordsOf k (n / 2 ^ 64)) ≡ n / 2 ^ 64 = whole-back k (n / 2 ^ 64) less in
     rw rest (omega arith)
 
 -- one event in a slice of its own
@@ -61,7 +63,8 @@ one-room state event =
     and-both (leb n (length (wordsOf words 0))) (leb n (length (wordsOf words 0))) (le-leb n _ enough) (le-leb n _ enough)
 
 pub reacted-once : (many : Asked → Told → Type 0) (a : Answer) (state event signals next : ℕ) → signals < 2 ^ width
-    → many (one state event) (telling a (one state event) (signals ∷ []) (next ∷ [])) → Once many state event (reactionOf (withState a next) signals)
+    → many (one state event) (telling a (one state event) (signals ∷ []) (next ∷ []))
+    → Once many state event (reactionOf (withState a next) signals)
 unfolding lastState
 reacted-once many a state event signals next h ran =
     record {

@@ -1,5 +1,6 @@
--- The promise, whole: the three demands, each sentence before the fields that carry it, over the contracts of the public entries. `promise` (proofs/Promise)
--- proves it and assumes nothing. A sheet, a netlist file and a lent slice are lists of numbers, a state and an event are sets (`has`, bits/specs).
+-- The promise, whole: the three demands, each sentence before the fields that carry it, over the contracts of the public entries.
+-- `promise` (proofs/Promise) proves it and assumes nothing. A sheet, a netlist file and a lent slice are lists of numbers, a state and an
+-- event are sets (`has`, bits/specs).
 use mathlib.Core.Path.{_≡_}
 use mathlib.Core.Bool.{true, _&&_}
 use mathlib.Core.List.{List, [], _∷_, map}
@@ -15,7 +16,7 @@ use Rattle.number.specs.Refusals.{fault}
 use Rattle.bits.specs.Bits.{has, signalsIn, width, setsIn, columnOf, bitsOf}
 use Rattle.sheet.specs.Stmt.{size}
 use Rattle.sheet.specs.Read.{Sheet, sheet, faulty}
-use Rattle.rules.specs.Rules.{Signals, Outcome}
+use Rattle.rules.specs.Rules.{Signals}
 use Rattle.rules.specs.States.{react as reaction, nextState, Agrees}
 use Rattle.cells.specs.Words.{word}
 use Rattle.builder.specs.Netlist.{sheetNetlist, sheetFile}
@@ -102,7 +103,8 @@ cellsOf w = map word (sheetNetlist w)
 abbrev pub ofNetlist : Answer → Answer
 ofNetlist a = acceptance 0 (a .cells)
 
--- Demand 1. "Every public entry answers, or refuses with the number and place the paper fixes": for every argument the contract allows one answer.
+-- Demand 1. "Every public entry answers, or refuses with the number and place the paper fixes": for every argument the contract allows
+-- one answer.
 pub record Answered {A : Type 0} (entry : A → Type 0) : Type 0 where
   pub answer : A
   pub is : Answers entry answer
@@ -122,15 +124,15 @@ pub record LentTwo (entry : Asked → Told → Type 0) (ask : Asked) : Type 0 wh
   pub states : (told .course .number ≡ 0 → ⊥) → told .states ≡ ask .states
   pub state : (told .course .number ≡ 0 → ⊥) → told .course .state ≡ bitsOf (ask .state)
 
--- "a refusal's counts and outputs are 0"
+-- of a reaction: "a refusal's .. outputs are 0", and "any refusal returns the state handed in"
 pub record Returned (entry : Reaction → Type 0) (state : ℕ) : Type 0 where
   pub answer : Reaction
   pub is : Answers entry answer
   pub signals : (answer .number ≡ 0 → ⊥) → answer .signals ≡ bitsOf 0
   pub state-back : (answer .number ≡ 0 → ⊥) → answer .state ≡ bitsOf state
 
--- "Sheets, netlist files, events and states may hold anything. .. No caller tests beforehand.": all arguments, a state being as wide as one. The entries `read`,
--- `rest` and `Table::reorder` are not among them: their contracts are equations.
+-- "Sheets, netlist files, events and states may hold anything. .. No caller tests beforehand.": all arguments, a state being as wide as
+-- one. The entries `read`, `rest` and `Table::reorder` are not among them: their contracts are equations.
 pub record Entries : Type 0 where
   pub of-check : (s : List ℕ) → Answered (check s)
   pub of-fits : (s : List ℕ) (state : ℕ) → Answered (fits s state)
@@ -147,22 +149,25 @@ pub record Entries : Type 0 where
   pub of-react-cells : (I O : ℕ) (words : List ℕ) (state event : ℕ) → Returned (react-cells I O words state event) state
   pub of-react-cells-many : (I O : ℕ) (words : List ℕ) (ask : Asked) → LentTwo (react-cells-many I O words) ask
 
--- Demand 2. "A program is refused only for the faults the paper lists.": the faults 1 to 11, which `judge` finds, then a cycle; nothing else.
+-- Demand 2. "A program is refused only for the faults the paper lists.": the faults 1 to 11, which `judge` finds, then a cycle; nothing
+-- else.
 pub record Judged (s : List ℕ) : Type 0 where
   pub answer : Answer
   pub is : Answers (check s) answer
   pub faulty-sheet : (f : Fault) → judge s ≡ faulty f → answer ≡ refusal f
   pub cyclic : (w : Sheet) → judge s ≡ sheet w → (x : CellNo) → Lowest (sheetNetlist w) x → answer ≡ refusal (fault Cycle (ofCell x))
-  pub free : (w : Sheet) → judge s ≡ sheet w → ((x : CellNo) → OnCycle (sheetNetlist w) x → ⊥) → answer ≡ acceptance (size (w .root)) (length (sheetNetlist w))
+  pub free : (w : Sheet) → judge s ≡ sheet w → ((x : CellNo) → OnCycle (sheetNetlist w) x → ⊥)
+      → answer ≡ acceptance (size (w .root)) (length (sheetNetlist w))
 
--- Demands 2 and 3, of one reaction: the sheet s, which reads as w and is accepted with the answer a, in a state that fits it, and an event of its own inputs.
+-- Demands 2 and 3, of one reaction: the sheet s, which reads as w and is accepted with the answer a, in a state that fits it, and an
+-- event of its own inputs.
 pub record Reacts (s : List ℕ) (w : Sheet) (a : Answer) (state event emissions outputs next : ℕ) : Type 0 where
   -- "exactly one set of present signals agrees with the rules."
   pub present : Signals
   pub agrees : Agrees (signalsIn event) (has state) present (w .root)
   pub alone : (E : Signals) → Agrees (signalsIn event) (has state) E (w .root) → (x : SignalNo) → E x ≡ present x
-  -- "the interpreter gives the emitted signals and the halt set of Berry's behavioural rules": what `react` answers is the reaction under that set, and that is
-  -- the one transition of 004's rules from what the state stands for.
+  -- "the interpreter gives the emitted signals and the halt set of Berry's behavioural rules": what `react` answers is the reaction under
+  -- that set, and that is the one transition of 004's rules from what the state stands for.
   pub interpreter : Answers (react s state event) (reactionOf (withState a next) emissions)
   pub emits : (x : SignalNo) → signalsIn emissions x ≡ reaction present (has state) (w .root) .emits x
   pub keeps : (b : ℕ) → has next b ≡ nextState (reaction present (has state) (w .root)) b
@@ -186,7 +191,8 @@ pub record HasReaction (s : List ℕ) (w : Sheet) (a : Answer) (state event : �
 -- one event after the other, each from the state after the one before: the emissions, the outputs and the states
 pub data Clocks (s : List ℕ) (w : Sheet) (a : Answer) : ℕ → List ℕ → List ℕ → List ℕ → List ℕ → Type 0 where
   ended : {state : ℕ} → Clocks s w a state [] [] [] []
-  goes : {state event emissions outputs next : ℕ} {events es os ns : List ℕ} → Reacts s w a state event emissions outputs next → Clocks s w a next events es os ns
+  goes : {state event emissions outputs next : ℕ} {events es os ns : List ℕ} → Reacts s w a state event emissions outputs next
+      → Clocks s w a next events es os ns
       → Clocks s w a state (event ∷ events) (emissions ∷ es) (outputs ∷ os) (next ∷ ns)
 
 -- what is asked of a run over many events, and what it answers: signals and states in the first places of the lent slices
@@ -222,9 +228,11 @@ pub record Runs (s : List ℕ) (w : Sheet) (a : Answer) (state : ℕ) (events : 
 pub record Accepts (s : List ℕ) (a : Answer) : Type 0 where
   pub read : Sheet
   pub accepts : Accepted s read
-  -- "the netlist is the one the paper's equations build": `compile` writes its file wherever there is room, and names the length where there is not.
+  -- "the netlist is the one the paper's equations build": `compile` writes its file wherever there is room, and names the length where
+  -- there is not.
   pub compiled : (buffer : List ℕ) → length (fileOf read) ≤ length buffer → Leaves (compile s buffer) a (sets buffer 0 (fileOf read))
-  pub no-room : (buffer : List ℕ) → length buffer < length (fileOf read) → Leaves (compile s buffer) (refusal (fault Buffer (length (fileOf read)))) buffer
+  pub no-room : (buffer : List ℕ) → length buffer < length (fileOf read)
+      → Leaves (compile s buffer) (refusal (fault Buffer (length (fileOf read)))) buffer
   pub handed : (words : List ℕ) → length (cellsOf read) ≤ length words
       → Leaves (compile-cells s words) (withSignals a (read .inputs) (read .outputs)) (sets words 0 (cellsOf read))
   -- "A netlist written to a file reads back as the same cells.", which are written to the same file again.
@@ -235,14 +243,18 @@ pub record Accepts (s : List ℕ) (a : Answer) : Type 0 where
       → Leaves (write-cells (read .inputs) (read .outputs) (cellsOf read) buffer) (ofNetlist a) (sets buffer 0 (fileOf read))
   -- "For every accepted program, every state that fits it and every event of its own inputs"; and "from a fresh start"
   pub fresh : Answers (fits s 0) a
-  pub reacts : (state : ℕ) → state < 2 ^ width → fits s state a → (event : ℕ) → eventOk (read .inputs) event ≡ true → HasReaction s read a state event
-  pub runs : (state : ℕ) → state < 2 ^ width → fits s state a → (events : List ℕ) → eventsOk (read .inputs) events ≡ true → Runs s read a state events
+  pub reacts : (state : ℕ) → state < 2 ^ width → fits s state a → (event : ℕ) → eventOk (read .inputs) event ≡ true
+      → HasReaction s read a state event
+  pub runs : (state : ℕ) → state < 2 ^ width → fits s state a → (events : List ℕ) → eventsOk (read .inputs) events ≡ true
+      → Runs s read a state events
 
--- "A netlist written to a file reads back as the same cells.", of all I, O and words that `check_cells` accepts with the answer a: word for word.
+-- "A netlist written to a file reads back as the same cells.", of all I, O and words that `check_cells` accepts with the answer a: word
+-- for word.
 pub record ReadBack (I O : ℕ) (words : List ℕ) (a : Answer) : Type 0 where
   pub file : List ℕ
   pub written : (buffer : List ℕ) → length file ≤ length buffer → Leaves (write-cells I O words buffer) a (sets buffer 0 file)
-  pub no-room : (buffer : List ℕ) → length buffer < length file → Leaves (write-cells I O words buffer) (refusal (fault Buffer (length file))) buffer
+  pub no-room : (buffer : List ℕ) → length buffer < length file
+      → Leaves (write-cells I O words buffer) (refusal (fault Buffer (length file))) buffer
   pub back : (slice : List ℕ) → length words ≤ length slice → Leaves (read-file file slice) (withSignals a I O) (sets slice 0 words)
 
 -- The promise.

@@ -1,6 +1,8 @@
--- There is an answer for all closed cells, as a fact about the definitions: the searches' own laws, followed by functions. So cells without a cycle have an order.
+-- There is an answer for all closed cells, as a fact about the definitions: the searches' own laws, followed by functions. So cells
+-- without a cycle
+-- have an order.
 use Prim.Native.Nat.{ℕ, suc, zero, _+_, _-_, _<_, _≤_}
-use mathlib.Core.Path.{_≡_, refl, sym, _∙_, subst}
+use mathlib.Core.Path.{_≡_, refl, subst}
 use mathlib.Core.List.{List}
 use mathlib.Core.Logic.{_⊎_, inl, inr, ⊎-elim}
 use native.Mathlib.Omega.{arith}
@@ -17,9 +19,11 @@ use Rattle.cells.proofs.Needing.{needs-first, needs-second, needs-only, needs-n
 use Rattle.order.specs.declared.Ordering.{Ordering}
 use Rattle.order.specs.declared.Ordering.the-variants.{Found, Cycle}
 use Rattle.order.specs.Paths.{OnCycle, Lowest, placed, Ordered, Answers}
-use Rattle.order.specs.Search.{WorkRoom, mark, Seen, IsOpen, IsDone, zeros, Searching, HasCycle, left, Went, Through, Noted, old, new, Expanded}
+use Rattle.order.specs.Search.{WorkRoom, mark, IsOpen, IsDone, zeros, Searching, HasCycle, left, Went, Through, Noted, old, new}
+use Rattle.order.specs.Search.{Expanded}
 use Rattle.order.proofs.Columns.{blank}
-use Rattle.order.proofs.Searches.{begins, in-stack, goes-deeper, places-top, comes-back, Under, under-begins, under-goes-on, under-ends, Upto, upto-more, all-placed}
+use Rattle.order.proofs.Searches.{begins, goes-deeper, places-top, comes-back, Under, under-begins, under-goes-on, under-ends}
+use Rattle.order.proofs.Searches.{Upto, upto-more, all-placed}
 use Rattle.order.proofs.Hunts.{expand-none, expand-both, Between, between-begins, goes-on, all-seen, Passed, passed-more, passed-low}
 use Rattle.order.proofs.Unique.{answers-found, answers-cycle, answer-found}
 
@@ -75,7 +79,8 @@ module _ {cells : List Cell} (closed : Closed cells) where
     turn (no none) = inr (ended u (omega arith))
 
   -- it ends, since each step leaves less to do
-  search : (fuel : ℕ) {marks₀ marks stack order : List ℕ} {top count : ℕ} → left cells marks top ≤ fuel → Under cells marks₀ marks stack order top count
+  search : (fuel : ℕ) {marks₀ marks stack order : List ℕ} {top count : ℕ} → left cells marks top ≤ fuel
+      → Under cells marks₀ marks stack order top count
       → HasCycle cells ⊎ Finished marks₀
   search zero few u = inr (ended u (omega arith))
   search (suc fuel) {top = top} few u = turn u (λ marks′ stack′ order′ top′ count′ w. search fuel (omega (arith, w .less)) (under-goes-on u w)) (decLt 0 top)
@@ -181,7 +186,8 @@ module _ {cells : List Cell} (closed : Closed cells) where
         let e = expand marks stack (top - 1) x (b .hunting .lent) in
         on (e .marks′) (e .stack′) (e .top′) (omega (arith, e .expanded .even)) (goes-on x b some refl (e .expanded))
 
-  hunt : (fuel : ℕ) {marks stack : List ℕ} {top : ℕ} {c : CellNo} → top + zeros (length cells) marks ≤ fuel → Between cells c marks stack top → Dec (OnCycle cells c)
+  hunt : (fuel : ℕ) {marks stack : List ℕ} {top : ℕ} {c : CellNo} → top + zeros (length cells) marks ≤ fuel
+      → Between cells c marks stack top → Dec (OnCycle cells c)
   hunt zero few b = decided b (omega arith)
   hunt (suc fuel) {marks} {top = top} few b = take-one b (λ marks′ stack′ top′ less next. hunt fuel (omega arith) next) (decLt 0 top)
 

@@ -1,25 +1,22 @@
 -- What the entries answer of an accepted sheet, computed: an order of its cells by a test, and a run by the rules' rounds.
-use mathlib.Core.Path.{_≡_, refl, sym, ap, ap₂, _∙_, fun-ext}
+use mathlib.Core.Path.{_≡_, refl, sym, ap, _∙_, fun-ext}
 use mathlib.Core.Bool.{Bool, true, false, not, _&&_, _||_}
 use mathlib.Core.List.{List, [], _∷_, _++_}
-use Prim.Native.Nat.{ℕ, zero, suc, _+_, _^_, _<_, _≤_}
+use Prim.Native.Nat.{ℕ, zero, suc, _^_, _<_, _≤_}
 use native.Mathlib.Omega.{arith}
-use lib.Dec.{eqb, ltb, leb}
+use lib.Dec.{eqb}
 use lib.ListN.{length}
-use borrow.Author.Tests.{leb-true, ltb-true}
-use Rattle.number.specs.declared.SignalNo.{SignalNo}
-use Rattle.number.specs.Counts.{signalNo, ofSignal, ofCell}
+use Rattle.number.specs.Counts.{signalNo, ofCell}
 use Rattle.number.specs.Number.{pick}
-use Rattle.number.proofs.Bools.{and-left, and-right, off}
+use Rattle.number.proofs.Bools.{and-left, and-right}
 use Rattle.limits.specs.Limits.{maxSignals}
 use Rattle.bits.specs.Bits.{has, signalsIn, width}
 use Rattle.bits.proofs.Laws.{ext, has-past}
-use Rattle.sheet.specs.Stmt.{Stmt}
 use Rattle.sheet.specs.Read.{Sheet, sheet}
 use Rattle.sets.specs.Words.{wordOf}
 use Rattle.sets.proofs.Columns.{has-word}
 use Rattle.rules.specs.Rules.{Signals, Outcome}
-use Rattle.rules.specs.States.{State, react, nextState, fits}
+use Rattle.rules.specs.States.{react, nextState, fits}
 use Rattle.cells.specs.declared.Cell.{Cell}
 use Rattle.cells.specs.declared.Pins.{Pins}
 use Rattle.cells.specs.declared.Pins.the-variants.{None, Two}
@@ -157,8 +154,10 @@ computed w state (event ∷ events) =
     }
 
 module _ {s : List ℕ} {w : Sheet} (ok : Accepted s w) where
-  pub clocks-computed : {state : ℕ} {events es os ns : List ℕ} → fits (has state) (w .root) ≡ true → each (eventOk (w .inputs)) events ≡ true
-      → Clocks s w (sheetAccepted (sheet w)) state events es os ns → computed w state events ≡ record { emissions = es; outputs = os; states = ns }
+  pub clocks-computed : {state : ℕ} {events es os ns : List ℕ} → fits (has state) (w .root) ≡ true
+      → each (eventOk (w .inputs)) events ≡ true
+      → Clocks s w (sheetAccepted (sheet w)) state events es os ns
+      → computed w state events ≡ record { emissions = es; outputs = os; states = ns }
   unfolding computed each
   clocks-computed fit all ended = refl
   clocks-computed {state} fit all (goes {event = e} {emissions = x} {outputs = y} {next = n} {events = es} {es = xs} {os = ys} {ns = ns} r rest) =

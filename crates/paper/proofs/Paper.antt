@@ -1,12 +1,11 @@
--- The table holds: of each row the sheet's outcome, the order of its cells, what fits, its runs and its file are computed, and the entries' laws do the rest.
-use mathlib.Core.Path.{_≡_, refl, sym, ap, _∙_, subst}
-use mathlib.Core.Bool.{Bool, true, false, _&&_}
+-- The table holds: of each row the sheet's outcome, the order of its cells, what fits, its runs and its file are computed, and the
+-- entries' laws do the rest.
+use mathlib.Core.Path.{_≡_, refl, sym, _∙_, subst}
+use mathlib.Core.Bool.{Bool, true, _&&_}
 use mathlib.Core.List.{List, [], _∷_, map}
-use Prim.Native.Nat.{ℕ, _+_, _^_, _<_, _≤_}
+use Prim.Native.Nat.{ℕ, _^_, _<_}
 use native.Mathlib.Omega.{arith}
 use lib.Dec.{ltb}
-use lib.ListN.{length}
-use lib.Seq.{sets}
 use borrow.Author.Tests.{ltb-true}
 use Rattle.number.specs.declared.CellNo.{CellNo}
 use Rattle.number.specs.declared.Fault.{Fault}
@@ -33,18 +32,16 @@ use Rattle.run.specs.Many.{each, eventsOk}
 use Rattle.compiler.specs.Check.{judge, Checks, refused, cyclic, accepted, Accepted}
 use Rattle.verdicts.specs.declared.Answer.{Answer}
 use Rattle.verdicts.specs.Answers.{passes, verdict, answerOf, refusal}
-use Rattle.sheet_entries.specs.Sheets.{sheetVerdict, sheetAccepted, Checked, sheetFits, Fitting, ReactedMany}
+use Rattle.sheet_entries.specs.Sheets.{sheetVerdict, sheetAccepted, Checked, sheetFits, Fitting}
 use Rattle.sheet_entries.proofs.OneSheetAnswer.{one-checked, one-fitting}
-use Rattle.files.specs.Read.{readFile}
-use Rattle.netlist_entries.specs.Netlists.{NetChecked, NetReactedMany}
-use Rattle.compile_entries.specs.Compile.{Written}
-use Rattle.krankovel.specs.Promise.{Answers, Leaves, fileOf, ofNetlist, telling, Runs}
+use Rattle.krankovel.specs.Promise.{Answers, fileOf, Runs}
 use Rattle.krankovel.proofs.Entries.{net-checked, written}
 use Rattle.krankovel.proofs.Reactions.{file-ok, runs}
 use Rattle.number.specs.Number.{numberAt, numberBytes}
 use Rattle.bits.specs.Bits.{noBits, noneFrom, setsFrom, wordsOf, wholeIn}
 use Rattle.sheet.specs.Stmt.{haltCount, localCount}
-use Rattle.sheet.specs.Read.{signalOf, naming, emitting, exiting, haltAt, localAt, trapAt, ofKind, headOfKind, inside, andThen, parts, readStmt}
+use Rattle.sheet.specs.Read.{signalOf, naming, emitting, exiting, haltAt, localAt, trapAt, ofKind, headOfKind, inside, andThen, parts}
+use Rattle.sheet.specs.Read.{readStmt}
 use Rattle.sheet.specs.Read.{ended, rootRead, afterOutputs, afterInputs, readSheet}
 use Rattle.sets.specs.Static.{K, R, hasHalts}
 use Rattle.sets.specs.Faults.{orElse, instant, climbs, firstFault, twice}
@@ -53,13 +50,15 @@ use Rattle.rules.specs.Rules.{start, active, resume}
 use Rattle.rules.specs.States.{react, apart}
 use Rattle.gates.specs.Folding.{gateAt}
 use Rattle.gates.specs.Rows.{orRow, pairs, highest, parallelRow}
-use Rattle.parts.specs.Equations.{build, buildHalt, buildEmit, buildSequence, buildLoop, buildPresent, buildWatching, buildParallel, buildTrap}
+use Rattle.parts.specs.Equations.{build, buildHalt, buildEmit, buildSequence, buildLoop, buildPresent, buildWatching, buildParallel}
+use Rattle.parts.specs.Equations.{buildTrap}
 use Rattle.builder.specs.Netlist.{netlist, rootOf, inputCells, signalCells}
 use Rattle.order.proofs.ByTest.{every, inOrder}
 use Rattle.files.specs.File.{cellsBytes, fileBytes}
 use Rattle.compiler.specs.Check.{unless, roomy, judged}
 use Rattle.agreement.specs.Rounds.{rounds}
-use Rattle.paper.specs.Cases.{Fit, Run, Case, All, none, more, asked, FileRuns, RunHolds, FileHolds, FitHolds, Holds, cases, p1, p2, p3, p4, p4-second, p5, p6, p6-second, p7, p7-second, p8, p9, p10, p11, p12, traced, guarded}
+use Rattle.paper.specs.Cases.{Fit, Run, Case, All, none, more, FileRuns, RunHolds, FileHolds, FitHolds, Holds, cases, p1, p2}
+use Rattle.paper.specs.Cases.{p3, p4, p4-second, p5, p6, p6-second, p7, p7-second, p8, p9, p10, p11, p12, traced, guarded}
 use Rattle.paper.proofs.Computing.{isOrdered, accepted-by, emissionsOf, outputsOf, nextOf, Computed, computed, clocks-computed}
 
 -- what is checked
@@ -129,6 +128,11 @@ record Computes (k : Case) (w : Sheet) : Type 0 where
   runs : map (runIn w) (k .runs) ≡ map said (k .runs)
   files : map (λ (f : List ℕ). fileOf w) (k .files) ≡ map (λ (f : List ℕ). f) (k .files)
 
+-- a run with what is computed of it
+abbrev withLists : Run → Computed → Run
+withLists r x =
+    record { state = r .state; events = r .events; emissions = x .emissions; outputs = x .outputs; states = x .states }
+
 module _ (k : Case) {w : Sheet} (c : Computes k w) where
   ok : Accepted (k .bytes) w
   ok = accepted-by (c .judged) (c .in-order)
@@ -138,6 +142,9 @@ module _ (k : Case) {w : Sheet} (c : Computes k w) where
 
   -- a run that may be asked for
   module _ (r : Run) (may : mayRun w r ≡ true) where
+    abbrev column : List ℕ
+    column = columnOf (r .events)
+
     abbrev small-is : Bool
     small-is = ltb (r .state) (2 ^ width)
 
@@ -145,53 +152,54 @@ module _ (k : Case) {w : Sheet} (c : Computes k w) where
     fit-is = fits (has (r .state)) (w .root)
 
     abbrev own-is : Bool
-    own-is = eventsOk (w .inputs) (columnOf (r .events))
+    own-is = eventsOk (w .inputs) column
+
+    small : r .state < 2 ^ width
+    unfolding mayRun
+    small = ltb-true (r .state) (2 ^ width) (and-left small-is (fit-is && own-is) may)
 
     rest : (fit-is && own-is) ≡ true
     unfolding mayRun
     rest = and-right small-is (fit-is && own-is) may
 
-    ran : Runs (k .bytes) w own (r .state) (columnOf (r .events))
-    unfolding mayRun
-    ran =
-        runs ok (r .state) (ltb-true (r .state) (2 ^ width) (and-left small-is (fit-is && own-is) may)) (and-left fit-is own-is rest)
-        (columnOf (r .events)) (and-right fit-is own-is rest)
+    fit : fit-is ≡ true
+    fit = and-left fit-is own-is rest
 
-    ran-as : runIn w r ≡ record { emissions = ran .emissions; outputs = ran .outputs; states = ran .states }
+    all-own : own-is ≡ true
+    all-own = and-right fit-is own-is rest
+
+    ran : Runs (k .bytes) w own (r .state) column
+    ran = runs ok (r .state) small fit column all-own
+
+    abbrev lists : Computed
+    lists = record { emissions = ran .emissions; outputs = ran .outputs; states = ran .states }
+
+    ran-as : runIn w r ≡ lists
     unfolding runIn
     ran-as =
-        clocks-computed ok (and-left fit-is own-is rest)
-        (and-right (isWhole (columnOf (r .events))) (each (eventOk (w .inputs)) (setsIn (columnOf (r .events)))) (and-right fit-is own-is rest)) (ran .clocks)
+        let each-own = and-right (isWhole column) (each (eventOk (w .inputs)) (setsIn column)) all-own in
+        clocks-computed ok fit each-own (ran .clocks)
 
-    run-holds : runIn w r ≡ said r → RunHolds k r
-    run-holds e =
-        let same : said r ≡ record { emissions = ran .emissions; outputs = ran .outputs; states = ran .states } = sym e ∙ ran-as in
-        let emitted : ran .emissions ≡ r .emissions = sym (ap (λ (x : Computed). x .emissions) same) in
-        let shown : ran .outputs ≡ r .outputs = sym (ap (λ (x : Computed). x .outputs) same) in
-        let passed : ran .states ≡ r .states = sym (ap (λ (x : Computed). x .states) same) in
-        let net-is : ofNetlist own ≡ ofNetlist (k .checked) = ap ofNetlist (c .checked) in
+    -- the run with these lists holds, and they are those of the row
+    lists-hold : RunHolds (k .bytes) own (k .files) (withLists r lists)
+    lists-hold =
         record {
-          interpreter = λ signals states room.
-              subst (λ (a : Answer). Answers (ReactedMany (k .bytes) (asked r signals states)) (telling a (asked r signals states) (r .emissions) (r .states)))
-              (c .checked) (rw (emitted, passed) at (ran .interpreter signals states room));
+          interpreter = ran .interpreter;
           netlist =
-              each-is (λ (f : List ℕ). fileOf w) (λ (f : List ℕ). f) (FileRuns k r)
-              (λ file is signals states room.
-              subst (λ (a : Answer). Answers (λ told. NetReactedMany (readFile file) (asked r signals states) told) (telling a (asked r signals states) (r .outputs) (r .states)))
-              net-is (rw (is, shown, passed) at (ran .file signals states room)))
-              (k .files) (c .files);
+              each-is (λ (f : List ℕ). fileOf w) (λ (f : List ℕ). f) (FileRuns own (withLists r lists))
+              (λ file is. subst (FileRuns own (withLists r lists)) is (ran .file)) (k .files) (c .files);
         }
 
-  file-holds : (file : List ℕ) → fileOf w ≡ file → FileHolds k file
+    run-holds : runIn w r ≡ said r → RunHolds (k .bytes) (k .checked) (k .files) r
+    run-holds e =
+        subst (λ (a : Answer). RunHolds (k .bytes) a (k .files) r) (c .checked)
+        (subst (λ (x : Computed). RunHolds (k .bytes) own (k .files) (withLists r x)) (sym ran-as ∙ e) lists-hold)
+
+  file-holds : (file : List ℕ) → fileOf w ≡ file → FileHolds (k .bytes) (k .checked) file
   unfolding sheetAccepted
   file-holds file is =
-      record {
-        compiled = subst (λ (f : List ℕ). (buffer : List ℕ) → length f ≤ length buffer → Leaves (λ r left. Written (k .bytes) r buffer left) (k .checked) (sets buffer 0 f)) is
-            (subst (λ (a : Answer). (buffer : List ℕ) → length (fileOf w) ≤ length buffer → Leaves (λ r left. Written (k .bytes) r buffer left) a (sets buffer 0 (fileOf w)))
-            (c .checked) (written ok));
-        checked = subst (λ (f : List ℕ). Answers (λ r. NetChecked (readFile f) r) (ofNetlist (k .checked))) is
-            (subst (λ (a : Answer). Answers (λ r. NetChecked (readFile (fileOf w)) r) (ofNetlist a)) (c .checked) (net-checked (file-ok ok)));
-      }
+      let own-file : FileHolds (k .bytes) own (fileOf w) = record { compiled = written ok; checked = net-checked (file-ok ok) } in
+      subst (FileHolds (k .bytes) (k .checked)) is (subst (λ (a : Answer). FileHolds (k .bytes) a (fileOf w)) (c .checked) own-file)
 
   accepts : Holds k
   unfolding answerOf sheetVerdict
@@ -199,27 +207,39 @@ module _ (k : Case) {w : Sheet} (c : Computes k w) where
       record {
         checked = checks ok (c .checked);
         states =
-            each-is (λ (f : Fit). fitIn w (f .state)) (λ (f : Fit). f .answer) (FitHolds k)
-            (λ f e. subst (λ (a : Answer). FitHolds k (record { state = f .state; answer = a })) e (fit-answers ok (f .state))) (k .states) (c .states);
+            each-is (λ (f : Fit). fitIn w (f .state)) (λ (f : Fit). f .answer) (FitHolds (k .bytes))
+            (λ f e. subst (Answers (Fitting (k .bytes) (f .state))) e (fit-answers ok (f .state))) (k .states) (c .states);
         runs =
-            both (λ (r : Run). mayRun w r ≡ true) (λ (r : Run). runIn w r ≡ said r) (RunHolds k) run-holds
+            both (λ (r : Run). mayRun w r ≡ true) (λ (r : Run). runIn w r ≡ said r) (RunHolds (k .bytes) (k .checked) (k .files)) run-holds
             (each-is (mayRun w) (λ (r : Run). true) (λ (r : Run). mayRun w r ≡ true) (λ r e. e) (k .runs) (c .may-run))
             (each-is (runIn w) said (λ (r : Run). runIn w r ≡ said r) (λ r e. e) (k .runs) (c .runs));
-        files = each-is (λ (f : List ℕ). fileOf w) (λ (f : List ℕ). f) (FileHolds k) file-holds (k .files) (c .files);
+        files =
+            each-is (λ (f : List ℕ). fileOf w) (λ (f : List ℕ). f) (FileHolds (k .bytes) (k .checked)) file-holds (k .files) (c .files);
       }
 
-accepted-row : (k : Case) → let w : Sheet = sheetIn k in judge (k .bytes) ≡ sheet w → isOrdered (sheetNetlist w) ≡ true → sheetAccepted (sheet w) ≡ k .checked
+accepted-row : (k : Case) → let w : Sheet = sheetIn k in judge (k .bytes) ≡ sheet w → isOrdered (sheetNetlist w) ≡ true
+    → sheetAccepted (sheet w) ≡ k .checked
     → map (λ (f : Fit). fitIn w (f .state)) (k .states) ≡ map (λ (f : Fit). f .answer) (k .states)
     → map (mayRun w) (k .runs) ≡ map (λ (r : Run). true) (k .runs) → map (runIn w) (k .runs) ≡ map said (k .runs)
     → map (λ (f : List ℕ). fileOf w) (k .files) ≡ map (λ (f : List ℕ). f) (k .files) → Holds k
 accepted-row k judged in-order checked states may-run runs files =
-    accepts k (record { judged = judged; in-order = in-order; checked = checked; states = states; may-run = may-run; runs = runs; files = files })
+    accepts k
+    (record {
+      judged = judged;
+      in-order = in-order;
+      checked = checked;
+      states = states;
+      may-run = may-run;
+      runs = runs;
+      files = files;
+    })
 
 own-sheet : (s : List ℕ) {v w : Sheet} → judge s ≡ sheet v → judge s ≡ sheet w → v ≡ w
 own-sheet s a b = let same : sheet _ ≡ sheet _ = sym a ∙ b in cc
 
 -- A sheet whose cells have no answer but a cycle at x: every sheet has an answer, so that is this one's.
-module _ (s : List ℕ) {w : Sheet} (is : judge s ≡ sheet w) (x : CellNo) (law : (order : List ℕ) (r : Ordering) → Answered (sheetNetlist w) order r → r ≡ Cycle x) where
+module _ (s : List ℕ) {w : Sheet} (is : judge s ≡ sheet w) (x : CellNo)
+    (law : (order : List ℕ) (r : Ordering) → Answered (sheetNetlist w) order r → r ≡ Cycle x) where
   cyclic-at : Checks s (faulty (fault CycleFault (ofCell x)))
   cyclic-at = go (every-answered s .checks)
     where
@@ -239,11 +259,12 @@ module _ (s : List ℕ) {w : Sheet} (is : judge s ≡ sheet w) (x : CellNo) (law
 
 -- The table.
 pub paper : All Holds cases
-unfolding numberAt pick has size haltCount localCount signalOf naming emitting exiting haltAt localAt trapAt ofKind headOfKind inside andThen parts
-    readStmt ended rootRead afterOutputs afterInputs readSheet K R hasHalts orElse instant climbs firstFault twice unless roomy judged judge wordOf start active
-    resume react noBits apart fits gateAt orRow pairs highest parallelRow build buildHalt buildEmit buildSequence buildLoop buildPresent buildWatching
-    buildParallel buildTrap netlist rootOf inputCells signalCells numberBytes cellsBytes fileBytes every inOrder isOrdered sheetAccepted sheetOf fitIn mayRun
-    runIn computed setsIn setsFrom columnOf wordsOf wholeIn noneFrom each rounds emissionsOf outputsOf nextOf
+unfolding numberAt pick has size haltCount localCount signalOf naming emitting exiting haltAt localAt trapAt ofKind headOfKind inside
+    andThen parts readStmt ended rootRead afterOutputs afterInputs readSheet K R hasHalts orElse instant climbs firstFault twice unless
+    roomy judged judge wordOf start active resume react noBits apart fits gateAt orRow pairs highest parallelRow build buildHalt buildEmit
+    buildSequence buildLoop buildPresent buildWatching buildParallel buildTrap netlist rootOf inputCells signalCells numberBytes
+    cellsBytes fileBytes every inOrder isOrdered sheetAccepted sheetOf fitIn mayRun runIn computed setsIn setsFrom columnOf wordsOf
+    wholeIn noneFrom each rounds emissionsOf outputsOf nextOf
 paper =
     more (accepted-row p1 refl refl refl refl refl refl refl)
     (more (accepted-row p2 refl refl refl refl refl refl refl)

@@ -9,14 +9,16 @@ use Rattle.bits.specs.Bits.{columnOf}
 use Rattle.verdicts.specs.declared.Answer.{Answer}
 use Rattle.verdicts.specs.Answers.{acceptance}
 use Rattle.verdicts.specs.Runs.{Asked, hasRoom}
-use Rattle.krankovel.specs.Promise.{check, compile, fits, react-many, check-file, react-file-many, Answers, Leaves, ofNetlist, asking, telling}
+use Rattle.krankovel.specs.Promise.{check, compile, fits, react-many, check-file, react-file-many, Answers, Leaves, ofNetlist, asking}
+use Rattle.krankovel.specs.Promise.{telling}
 
 -- a state, and what `fits` answers of it
 pub record Fit : Type 0 where
   pub state : ℕ
   pub answer : Answer
 
--- a run from a state over events: the emissions that the interpreter answers to each, the outputs that the netlist does, and the states after each
+-- a run from a state over events: the emissions that the interpreter answers to each, the outputs that the netlist does, and the states
+-- after each
 pub record Run : Type 0 where
   pub state : ℕ
   pub events : List ℕ
@@ -24,7 +26,8 @@ pub record Run : Type 0 where
   pub outputs : List ℕ
   pub states : List ℕ
 
--- A row: the sheet, and what `check` answers of it, "number, place, statements, cells"; states, runs and the file, where something is said of them.
+-- A row: the sheet, and what `check` answers of it, "number, place, statements, cells"; states, runs and the file, where something is said
+-- of them.
 pub record Case : Type 0 where
   pub bytes : List ℕ
   pub checked : Answer
@@ -41,29 +44,29 @@ pub data All {A : Type 0} (P : A → Type 0) : List A → Type 0 where
 abbrev pub asked : Run → List ℕ → List ℕ → Asked
 asked r signals states = asking (r .state) (columnOf (r .events)) signals states
 
--- by the netlist of a file
-abbrev pub FileRuns : Case → Run → List ℕ → Type 0
-FileRuns k r file = (signals states : List ℕ) → hasRoom (asked r signals states) ≡ true
-    → Answers (react-file-many file (asked r signals states)) (telling (ofNetlist (k .checked)) (asked r signals states) (r .outputs) (r .states))
+-- the netlist of a file runs so, in slices that are long enough, where a is what `check` answers of the sheet
+abbrev pub FileRuns : Answer → Run → List ℕ → Type 0
+FileRuns a r file = (signals states : List ℕ) → let ask : Asked = asked r signals states in
+    hasRoom ask ≡ true → Answers (react-file-many file ask) (telling (ofNetlist a) ask (r .outputs) (r .states))
 
-pub record RunHolds (k : Case) (r : Run) : Type 0 where
-  pub interpreter : (signals states : List ℕ) → hasRoom (asked r signals states) ≡ true
-      → Answers (react-many (k .bytes) (asked r signals states)) (telling (k .checked) (asked r signals states) (r .emissions) (r .states))
-  pub netlist : All (FileRuns k r) (k .files)
+pub record RunHolds (s : List ℕ) (a : Answer) (files : List (List ℕ)) (r : Run) : Type 0 where
+  pub interpreter : (signals states : List ℕ) → let ask : Asked = asked r signals states in
+      hasRoom ask ≡ true → Answers (react-many s ask) (telling a ask (r .emissions) (r .states))
+  pub netlist : All (FileRuns a r) files
 
 -- `compile` writes the file, and `check_file` accepts it
-pub record FileHolds (k : Case) (file : List ℕ) : Type 0 where
-  pub compiled : (buffer : List ℕ) → length file ≤ length buffer → Leaves (compile (k .bytes) buffer) (k .checked) (sets buffer 0 file)
-  pub checked : Answers (check-file file) (ofNetlist (k .checked))
+pub record FileHolds (s : List ℕ) (a : Answer) (file : List ℕ) : Type 0 where
+  pub compiled : (buffer : List ℕ) → length file ≤ length buffer → Leaves (compile s buffer) a (sets buffer 0 file)
+  pub checked : Answers (check-file file) (ofNetlist a)
 
-abbrev pub FitHolds : Case → Fit → Type 0
-FitHolds k f = Answers (fits (k .bytes) (f .state)) (f .answer)
+abbrev pub FitHolds : List ℕ → Fit → Type 0
+FitHolds s f = Answers (fits s (f .state)) (f .answer)
 
 pub record Holds (k : Case) : Type 0 where
   pub checked : Answers (check (k .bytes)) (k .checked)
-  pub states : All (FitHolds k) (k .states)
-  pub runs : All (RunHolds k) (k .runs)
-  pub files : All (FileHolds k) (k .files)
+  pub states : All (FitHolds (k .bytes)) (k .states)
+  pub runs : All (RunHolds (k .bytes) (k .checked) (k .files)) (k .runs)
+  pub files : All (FileHolds (k .bytes) (k .checked)) (k .files)
 
 -- "a refusal's counts .. are 0"
 abbrev answer : ℕ → ℕ → Answer
@@ -83,8 +86,10 @@ p4File =
 
 abbrev p10File : List ℕ
 p10File =
-    2 ∷ 1 ∷ 35 ∷ 0 ∷ 1 ∷ 2 ∷ 1 ∷ 2 ∷ 2 ∷ 3 ∷ 26 ∷ 0 ∷ 6 ∷ 1 ∷ 5 ∷ 1 ∷ 5 ∷ 3 ∷ 6 ∷ 32 ∷ 3 ∷ 0 ∷ 0 ∷ 5 ∷ 1 ∷ 2 ∷ 6 ∷ 13 ∷ 4 ∷ 9 ∷ 10 ∷ 3 ∷ 7 ∷ 11 ∷ 5 ∷ 12
-    ∷ 8 ∷ 4 ∷ 1 ∷ 10 ∷ 4 ∷ 14 ∷ 2 ∷ 5 ∷ 1 ∷ 3 ∷ 6 ∷ 20 ∷ 4 ∷ 16 ∷ 17 ∷ 3 ∷ 7 ∷ 18 ∷ 5 ∷ 19 ∷ 8 ∷ 4 ∷ 1 ∷ 17 ∷ 4 ∷ 21 ∷ 3 ∷ 3 ∷ 10 ∷ 17 ∷ 3 ∷ 12 ∷ 19 ∷ 3
+    2 ∷ 1 ∷ 35 ∷ 0 ∷ 1 ∷ 2 ∷ 1 ∷ 2 ∷ 2 ∷ 3 ∷ 26 ∷ 0 ∷ 6 ∷ 1 ∷ 5 ∷ 1 ∷ 5 ∷ 3 ∷ 6 ∷ 32 ∷ 3 ∷ 0 ∷ 0 ∷ 5 ∷ 1 ∷ 2 ∷ 6 ∷ 13 ∷ 4 ∷ 9 ∷ 10 ∷ 3
+    ∷ 7 ∷ 11 ∷ 5 ∷ 12
+    ∷ 8 ∷ 4 ∷ 1 ∷ 10 ∷ 4 ∷ 14 ∷ 2 ∷ 5 ∷ 1 ∷ 3 ∷ 6 ∷ 20 ∷ 4 ∷ 16 ∷ 17 ∷ 3 ∷ 7 ∷ 18 ∷ 5 ∷ 19 ∷ 8 ∷ 4 ∷ 1 ∷ 17 ∷ 4 ∷ 21 ∷ 3 ∷ 3 ∷ 10 ∷ 17
+    ∷ 3 ∷ 12 ∷ 19 ∷ 3
     ∷ 15 ∷ 22 ∷ 5 ∷ 25 ∷ 24 ∷ 5 ∷ 1 ∷ 1 ∷ 6 ∷ 30 ∷ 4 ∷ 27 ∷ 28 ∷ 3 ∷ 26 ∷ 29 ∷ 4 ∷ 1 ∷ 28 ∷ 4 ∷ 31 ∷ 1 ∷ 3 ∷ 23 ∷ 28 ∷ 3 ∷ 24 ∷ 30 ∷ []
 
 abbrev p11File : List ℕ
@@ -93,12 +98,14 @@ p11File =
 
 abbrev p12File : List ℕ
 p12File =
-    0 ∷ 0 ∷ 15 ∷ 0 ∷ 1 ∷ 6 ∷ 1 ∷ 5 ∷ 1 ∷ 2 ∷ 3 ∷ 0 ∷ 0 ∷ 6 ∷ 8 ∷ 4 ∷ 1 ∷ 5 ∷ 3 ∷ 3 ∷ 6 ∷ 5 ∷ 7 ∷ 4 ∷ 6 ∷ 12 ∷ 4 ∷ 1 ∷ 9 ∷ 3 ∷ 3 ∷ 10 ∷ 5 ∷ 11 ∷ 4 ∷ 3 ∷ 5
+    0 ∷ 0 ∷ 15 ∷ 0 ∷ 1 ∷ 6 ∷ 1 ∷ 5 ∷ 1 ∷ 2 ∷ 3 ∷ 0 ∷ 0 ∷ 6 ∷ 8 ∷ 4 ∷ 1 ∷ 5 ∷ 3 ∷ 3 ∷ 6 ∷ 5 ∷ 7 ∷ 4 ∷ 6 ∷ 12 ∷ 4 ∷ 1 ∷ 9 ∷ 3 ∷ 3 ∷ 10
+    ∷ 5 ∷ 11 ∷ 4 ∷ 3 ∷ 5
     ∷ 9 ∷ 3 ∷ 7 ∷ 11 ∷ []
 
 abbrev traceFile : List ℕ
 traceFile =
-    1 ∷ 1 ∷ 13 ∷ 0 ∷ 1 ∷ 2 ∷ 1 ∷ 3 ∷ 12 ∷ 0 ∷ 6 ∷ 1 ∷ 5 ∷ 1 ∷ 4 ∷ 3 ∷ 5 ∷ 12 ∷ 5 ∷ 1 ∷ 2 ∷ 6 ∷ 10 ∷ 4 ∷ 7 ∷ 8 ∷ 3 ∷ 6 ∷ 9 ∷ 4 ∷ 1 ∷ 8 ∷ 4 ∷ 11 ∷ 2 ∷ []
+    1 ∷ 1 ∷ 13 ∷ 0 ∷ 1 ∷ 2 ∷ 1 ∷ 3 ∷ 12 ∷ 0 ∷ 6 ∷ 1 ∷ 5 ∷ 1 ∷ 4 ∷ 3 ∷ 5 ∷ 12 ∷ 5 ∷ 1 ∷ 2 ∷ 6 ∷ 10 ∷ 4 ∷ 7 ∷ 8 ∷ 3 ∷ 6 ∷ 9 ∷ 4 ∷ 1 ∷ 8
+    ∷ 4 ∷ 11 ∷ 2 ∷ []
 
 -- from fresh
 abbrev run : List ℕ → List ℕ → List ℕ → List ℕ → Run
