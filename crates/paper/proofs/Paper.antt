@@ -22,7 +22,7 @@ use Rattle.rules.specs.States.{fits}
 use Rattle.builder.specs.Netlist.{sheetNetlist}
 use Rattle.order.specs.declared.Ordering.{Ordering}
 use Rattle.order.specs.declared.Ordering.the-variants.{Found, Cycle}
-use Rattle.order.specs.Paths.{Lowest, Ordered, Answers as Answered}
+use Rattle.order.specs.Paths.{Lowest, Ordered, Answers as Ordering-is}
 use Rattle.order.proofs.Unique.{answers-found, answers-cycle}
 use Rattle.order.proofs.Cases.{p5-answer}
 use Rattle.compiler.proofs.Passing.{faulty-sheet}
@@ -234,25 +234,22 @@ accepted-row k judged in-order checked states may-run runs files =
       files = files;
     })
 
-own-sheet : (s : List ℕ) {v w : Sheet} → judge s ≡ sheet v → judge s ≡ sheet w → v ≡ w
-own-sheet s a b = let same : sheet _ ≡ sheet _ = sym a ∙ b in cc
-
 -- A sheet whose cells have no answer but a cycle at x: every sheet has an answer, so that is this one's.
 module _ (s : List ℕ) {w : Sheet} (is : judge s ≡ sheet w) (x : CellNo)
-    (law : (order : List ℕ) (r : Ordering) → Answered (sheetNetlist w) order r → r ≡ Cycle x) where
+    (law : (order : List ℕ) (r : Ordering) → Ordering-is (sheetNetlist w) order r → r ≡ Cycle x) where
   cyclic-at : Checks s (faulty (fault CycleFault (ofCell x)))
   cyclic-at = go (every-answered s .checks)
     where
       go : {o : SheetOutcome} → Checks s o → Checks s (faulty (fault CycleFault (ofCell x)))
       go (refused e) = faulty-sheet (sym e ∙ is)
       go (cyclic {w = v} {x = y} e lowest) =
-          let own : v ≡ w = own-sheet s e is in
+          let own : v ≡ w = cc in
           let lowest′ : Lowest (sheetNetlist w) y = subst (λ (u : Sheet). Lowest (sheetNetlist u) y) own lowest in
           let at : Cycle y ≡ Cycle x = law [] (Cycle y) (answers-cycle lowest′) in
           let same : y ≡ x = cc in
           cyclic is (subst (Lowest (sheetNetlist w)) same lowest′)
       go (accepted {w = v} order e ordered) =
-          let own : v ≡ w = own-sheet s e is in
+          let own : v ≡ w = cc in
           let at : Found ≡ Cycle x = law order Found (answers-found (subst (λ (u : Sheet). Ordered (sheetNetlist u) order) own ordered)) in
           let z : _≡_ {A = ℕ} 0 1 = cc in
           absurd (omega arith)
