@@ -1,6 +1,5 @@
 -- There is an answer for all closed cells, as a fact about the definitions: the searches' own laws, followed by functions. So cells
--- without a cycle
--- have an order.
+-- without a cycle have an order.
 use Prim.Native.Nat.{ℕ, suc, zero, _+_, _-_, _<_, _≤_}
 use mathlib.Core.Path.{_≡_, refl, subst}
 use mathlib.Core.List.{List}
@@ -19,10 +18,10 @@ use Rattle.cells.proofs.Needing.{needs-first, needs-second, needs-only, needs-n
 use Rattle.order.specs.declared.Ordering.{Ordering}
 use Rattle.order.specs.declared.Ordering.the-variants.{Found, Cycle}
 use Rattle.order.specs.Paths.{OnCycle, Lowest, placed, Ordered, Answers}
-use Rattle.order.specs.Search.{WorkRoom, mark, IsOpen, IsDone, zeros, Searching, HasCycle, left, Went, Through, Noted, old, new}
+use Rattle.order.specs.Search.{WorkRoom, mark, IsOpen, IsDone, waiting, zeros, Searching, HasCycle, left, Went, Through, Noted, old, new}
 use Rattle.order.specs.Search.{Expanded}
 use Rattle.order.proofs.Columns.{blank}
-use Rattle.order.proofs.Searches.{begins, goes-deeper, places-top, comes-back, Under, under-begins, under-goes-on, under-ends}
+use Rattle.order.proofs.Searches.{begins, place-free, goes-deeper, places-top, comes-back, Under, under-begins, under-goes-on, under-ends}
 use Rattle.order.proofs.Searches.{Upto, upto-more, all-placed}
 use Rattle.order.proofs.Hunts.{expand-none, expand-both, Between, between-begins, goes-on, all-seen, Passed, passed-more, passed-low}
 use Rattle.order.proofs.Unique.{answers-found, answers-cycle, answer-found}
@@ -54,36 +53,40 @@ module _ {cells : List Cell} (closed : Closed cells) where
   -- a search that has ended
   record Finished (marks₀ : List ℕ) : Type 0 where
     marks : List ℕ
-    stack : List ℕ
     order : List ℕ
     count : ℕ
-    under : Under cells marks₀ marks stack order 0 count
+    under : Under cells marks₀ marks order 0 count
 
-  ended : {marks₀ marks stack order : List ℕ} {top count : ℕ} → Under cells marks₀ marks stack order top count → top ≡ 0 → Finished marks₀
-  ended {marks₀} {marks} {stack} {order} {count = count} u e =
-      record { marks = marks; stack = stack; order = order; count = count; under = subst (λ (n : ℕ). Under cells marks₀ marks stack order n count) e u }
+  ended : {marks₀ marks order : List ℕ} {top count : ℕ} → Under cells marks₀ marks order top count → top ≡ 0 → Finished marks₀
+  ended {marks₀} {marks} {order} {count = count} u e =
+      let under = subst (λ (n : ℕ). Under cells marks₀ marks order n count) e u in
+      record { marks = marks; order = order; count = count; under = under }
 
   -- one step, from which the search goes on
-  module _ {marks₀ marks stack order : List ℕ} {top count : ℕ} (u : Under cells marks₀ marks stack order top count)
-      (on : (marks′ stack′ order′ : List ℕ) (top′ count′ : ℕ) → Went cells marks marks′ stack′ order′ top top′ count′ → HasCycle cells ⊎ Finished marks₀) where
+  module _ {marks₀ marks order : List ℕ} {top count : ℕ} (u : Under cells marks₀ marks order top count)
+      (on : (marks′ order′ : List ℕ) (top′ count′ : ℕ) → Went cells marks marks′ order′ top top′ count′ → HasCycle cells ⊎ Finished marks₀)
+      where
     abbrev x : CellNo
-    x = placed stack (top - 1)
+    x = waiting order top
 
     step : 0 < top → Next marks x → HasCycle cells ⊎ Finished marks₀
-    step some (fresh y needs is-new) = on _ _ _ _ _ (goes-deeper (u .searching) some y (closed .gates x y needs) is-new needs)
+    step some (fresh y needs is-new) =
+        let is = closed .gates x y needs in
+        let free = place-free (u .searching) y is is-new in
+        on _ _ _ _ (goes-deeper (u .searching) some (length order - (top + 1)) y is is-new (omega (arith, free)) needs)
     step some (back y needs is-open) = inl (y, comes-back (u .searching) x some refl y needs is-open)
-    step some (clear done) = on _ _ _ _ _ (places-top (u .searching) some done)
+    step some (clear done) = on _ _ _ _ (places-top (u .searching) some done)
 
     turn : Dec (0 < top) → HasCycle cells ⊎ Finished marks₀
     turn (yes some) = step some (look marks x)
     turn (no none) = inr (ended u (omega arith))
 
   -- it ends, since each step leaves less to do
-  search : (fuel : ℕ) {marks₀ marks stack order : List ℕ} {top count : ℕ} → left cells marks top ≤ fuel
-      → Under cells marks₀ marks stack order top count
+  search : (fuel : ℕ) {marks₀ marks order : List ℕ} {top count : ℕ} → left cells marks top ≤ fuel → Under cells marks₀ marks order top count
       → HasCycle cells ⊎ Finished marks₀
   search zero few u = inr (ended u (omega arith))
-  search (suc fuel) {top = top} few u = turn u (λ marks′ stack′ order′ top′ count′ w. search fuel (omega (arith, w .less)) (under-goes-on u w)) (decLt 0 top)
+  search (suc fuel) {top = top} few u =
+      turn u (λ marks′ order′ top′ count′ w. search fuel (omega (arith, w .less)) (under-goes-on u w)) (decLt 0 top)
 
   record HasOrder : Type 0 where
     order : List ℕ
@@ -92,29 +95,31 @@ module _ {cells : List Cell} (closed : Closed cells) where
   -- from each cell in turn
   record Visited (i : ℕ) : Type 0 where
     marks : List ℕ
-    stack : List ℕ
     order : List ℕ
     count : ℕ
-    upto : Upto cells marks stack order count i
+    upto : Upto cells marks order count i
 
   visit : (i : ℕ) → IsCell cells (cellNo i) → Visited i → HasCycle cells ⊎ Visited (i + 1)
   visit i is v = go (mark (v .marks) (cellNo i)) refl
     where
-      now : Searching cells (v .marks) (v .stack) (v .order) 0 (v .count)
+      now : Searching cells (v .marks) (v .order) 0 (v .count)
       now = v .upto .searching
 
       wide : i < length (v .marks)
       wide = omega (arith, now .lent .wide)
 
-      further : {marks stack order : List ℕ} {count : ℕ} → Through cells (v .marks) marks stack order (cellNo i) count → Visited (i + 1)
-      further {marks} {stack} {order} {count} t = record { marks = marks; stack = stack; order = order; count = count; upto = upto-more (v .upto) t }
+      further : {marks order : List ℕ} {count : ℕ} → Through cells (v .marks) marks order (cellNo i) count → Visited (i + 1)
+      further {marks} {order} {count} t = record { marks = marks; order = order; count = count; upto = upto-more (v .upto) t }
 
       after : HasCycle cells ⊎ Finished (set (v .marks) i 1) → HasCycle cells ⊎ Visited (i + 1)
       after (inl cycle) = inl cycle
       after (inr f) = inr (further (under-ends (cellNo i) wide (f .under)))
 
       go : (m : ℕ) → mark (v .marks) (cellNo i) ≡ m → HasCycle cells ⊎ Visited (i + 1)
-      go zero e = after (search (left cells (set (v .marks) i 1) 1) (omega arith) (under-begins (cellNo i) now is e))
+      go zero e =
+          let end : ℕ = length (v .order) - 1 in
+          let begun = under-begins end (cellNo i) now is e (omega (arith, place-free now (cellNo i) is e)) in
+          after (search (left cells (set (v .marks) i 1) 1) (omega arith) begun)
       go (suc m) e = inr (further (record { searching = now; seen = omega (arith, e); still = λ y h. h }))
 
   -- k are left
@@ -134,9 +139,8 @@ module _ {cells : List Cell} (closed : Closed cells) where
 
     cycle-or-order : HasCycle cells ⊎ HasOrder
     cycle-or-order =
-        let first : Upto cells nothing nothing nothing 0 0 =
-        record { searching = begins lent (omega (arith, long)) (blank (length cells)); seen = λ k h. absurd (omega arith) } in
-        place (length cells) 0 (omega arith) (record { marks = nothing; stack = nothing; order = nothing; count = 0; upto = first })
+        let first : Upto cells nothing nothing 0 0 = record { searching = begins lent (blank (length cells)); seen = λ k h. absurd (omega arith) } in
+        place (length cells) 0 (omega arith) (record { marks = nothing; order = nothing; count = 0; upto = first })
 
   -- Whether a cell reaches itself: y is noted, and all that x needs is.
   record Noting (marks stack : List ℕ) (top : ℕ) (y : CellNo) : Type 0 where

@@ -58,7 +58,7 @@ use Rattle.files.specs.File.{cellsBytes, fileBytes}
 use Rattle.compiler.specs.Check.{unless, roomy, judged}
 use Rattle.agreement.specs.Rounds.{rounds}
 use Rattle.paper.specs.Cases.{Fit, Run, Case, All, none, more, FileRuns, RunHolds, FileHolds, FitHolds, Holds, cases, p1, p2}
-use Rattle.paper.specs.Cases.{p3, p4, p4-second, p5, p6, p6-second, p7, p7-second, p8, p9, p10, p11, p12, traced, guarded}
+use Rattle.paper.specs.Cases.{p3, p4, p4-second, p5, p6, p6-second, p7, p7-second, p8, p9, p10, p11, p12, traced, guarded, branches}
 use Rattle.paper.proofs.Computing.{isOrdered, accepted-by, emissionsOf, outputsOf, nextOf, Computed, computed, clocks-computed}
 
 -- what is checked
@@ -280,4 +280,5 @@ paper =
     (more (accepted-row p12 refl refl refl refl refl refl refl)
     (more (accepted-row traced refl refl refl refl refl refl refl)
     (more (accepted-row guarded refl refl refl refl refl refl refl)
-    none))))))))))))))))
+    (more (accepted-row branches refl refl refl refl refl refl refl)
+    none)))))))))))))))))

@@ -1,4 +1,4 @@
--- "Sheets to try (marked P: proved)": P1 to P12 as one table, a row for each sheet: its bytes, and what the public entries answer of it.
+-- "Sheets to try (marked P: proved)": P1 to P12 as one table, a row for each sheet, and a row of request 1: its bytes, and what the public entries answer of it.
 use mathlib.Core.Path.{_≡_}
 use mathlib.Core.Bool.{true}
 use mathlib.Core.List.{List, [], _∷_}
@@ -82,30 +82,38 @@ accepted s statements cells states runs files =
 -- the files of P4's second sheet, P10, P11, P12 and the sheet of the trace
 abbrev p4File : List ℕ
 p4File =
-    0 ∷ 0 ∷ 8 ∷ 0 ∷ 1 ∷ 6 ∷ 1 ∷ 5 ∷ 1 ∷ 2 ∷ 3 ∷ 3 ∷ 0 ∷ 6 ∷ 7 ∷ 4 ∷ 1 ∷ 5 ∷ 3 ∷ 4 ∷ 6 ∷ []
+    0 ∷ 0 ∷ 8 ∷ 0 ∷ 1 ∷ 6 ∷ 1 ∷ 7 ∷ 2 ∷ 1 ∷ 2 ∷ 7 ∷ 14 ∷ 3 ∷ 0 ∷ 6 ∷ 7 ∷ 7 ∷ 8 ∷ 1 ∷ 5 ∷ 7 ∷ 14 ∷ 4 ∷ 6 ∷ []
 
 abbrev p10File : List ℕ
 p10File =
-    2 ∷ 1 ∷ 35 ∷ 0 ∷ 1 ∷ 2 ∷ 1 ∷ 2 ∷ 2 ∷ 3 ∷ 26 ∷ 0 ∷ 6 ∷ 1 ∷ 5 ∷ 1 ∷ 5 ∷ 3 ∷ 6 ∷ 32 ∷ 3 ∷ 0 ∷ 0 ∷ 5 ∷ 1 ∷ 2 ∷ 6 ∷ 13 ∷ 4 ∷ 9 ∷ 10 ∷ 3
-    ∷ 7 ∷ 11 ∷ 5 ∷ 12
-    ∷ 8 ∷ 4 ∷ 1 ∷ 10 ∷ 4 ∷ 14 ∷ 2 ∷ 5 ∷ 1 ∷ 3 ∷ 6 ∷ 20 ∷ 4 ∷ 16 ∷ 17 ∷ 3 ∷ 7 ∷ 18 ∷ 5 ∷ 19 ∷ 8 ∷ 4 ∷ 1 ∷ 17 ∷ 4 ∷ 21 ∷ 3 ∷ 3 ∷ 10 ∷ 17
-    ∷ 3 ∷ 12 ∷ 19 ∷ 3
-    ∷ 15 ∷ 22 ∷ 5 ∷ 25 ∷ 24 ∷ 5 ∷ 1 ∷ 1 ∷ 6 ∷ 30 ∷ 4 ∷ 27 ∷ 28 ∷ 3 ∷ 26 ∷ 29 ∷ 4 ∷ 1 ∷ 28 ∷ 4 ∷ 31 ∷ 1 ∷ 3 ∷ 23 ∷ 28 ∷ 3 ∷ 24 ∷ 30 ∷ []
+    2 ∷ 1 ∷ 35 ∷ 0 ∷ 1 ∷ 2 ∷ 1 ∷ 2 ∷ 2 ∷ 7 ∷ 14 ∷ 26 ∷ 0 ∷ 6 ∷ 1 ∷ 7 ∷ 2 ∷ 1 ∷ 5 ∷ 7 ∷ 14 ∷ 6 ∷ 32 ∷ 7 ∷ 14 ∷ 0 ∷ 0 ∷ 7 ∷ 2 ∷ 1
+    ∷ 2 ∷ 6 ∷ 13 ∷ 7 ∷ 8 ∷ 9 ∷ 10 ∷ 7 ∷ 14 ∷ 7 ∷ 11 ∷ 7 ∷ 2 ∷ 12 ∷ 8 ∷ 7 ∷ 8 ∷ 1 ∷ 10 ∷ 7 ∷ 8 ∷ 14 ∷ 2 ∷ 7 ∷ 2 ∷ 1 ∷ 3 ∷ 6 ∷ 20
+    ∷ 7 ∷ 8 ∷ 16 ∷ 17 ∷ 7 ∷ 14 ∷ 7 ∷ 18 ∷ 7 ∷ 2 ∷ 19 ∷ 8 ∷ 7 ∷ 8 ∷ 1 ∷ 17 ∷ 7 ∷ 8 ∷ 21 ∷ 3 ∷ 7 ∷ 14 ∷ 10 ∷ 17 ∷ 7 ∷ 14 ∷ 12 ∷ 19
+    ∷ 7 ∷ 14 ∷ 15 ∷ 22 ∷ 7 ∷ 2 ∷ 25 ∷ 24 ∷ 7 ∷ 2 ∷ 1 ∷ 1 ∷ 6 ∷ 30 ∷ 7 ∷ 8 ∷ 27 ∷ 28 ∷ 7 ∷ 14 ∷ 26 ∷ 29 ∷ 7 ∷ 8 ∷ 1 ∷ 28 ∷ 7 ∷ 8
+    ∷ 31 ∷ 1 ∷ 7 ∷ 14 ∷ 23 ∷ 28 ∷ 7 ∷ 14 ∷ 24 ∷ 30 ∷ []
 
 abbrev p11File : List ℕ
 p11File =
-    0 ∷ 1 ∷ 7 ∷ 0 ∷ 1 ∷ 3 ∷ 0 ∷ 0 ∷ 6 ∷ 1 ∷ 5 ∷ 1 ∷ 3 ∷ 3 ∷ 0 ∷ 6 ∷ 3 ∷ 4 ∷ 4 ∷ []
+    0 ∷ 1 ∷ 7 ∷ 0 ∷ 1 ∷ 7 ∷ 14 ∷ 0 ∷ 0 ∷ 6 ∷ 1 ∷ 7 ∷ 2 ∷ 1 ∷ 3 ∷ 7 ∷ 14 ∷ 0 ∷ 6 ∷ 7 ∷ 14 ∷ 4 ∷ 4 ∷ []
 
 abbrev p12File : List ℕ
 p12File =
-    0 ∷ 0 ∷ 15 ∷ 0 ∷ 1 ∷ 6 ∷ 1 ∷ 5 ∷ 1 ∷ 2 ∷ 3 ∷ 0 ∷ 0 ∷ 6 ∷ 8 ∷ 4 ∷ 1 ∷ 5 ∷ 3 ∷ 3 ∷ 6 ∷ 5 ∷ 7 ∷ 4 ∷ 6 ∷ 12 ∷ 4 ∷ 1 ∷ 9 ∷ 3 ∷ 3 ∷ 10
-    ∷ 5 ∷ 11 ∷ 4 ∷ 3 ∷ 5
-    ∷ 9 ∷ 3 ∷ 7 ∷ 11 ∷ []
+    0 ∷ 0 ∷ 15 ∷ 0 ∷ 1 ∷ 6 ∷ 1 ∷ 7 ∷ 2 ∷ 1 ∷ 2 ∷ 7 ∷ 14 ∷ 0 ∷ 0 ∷ 6 ∷ 8 ∷ 7 ∷ 8 ∷ 1 ∷ 5 ∷ 7 ∷ 14 ∷ 3 ∷ 6 ∷ 7 ∷ 2 ∷ 7 ∷ 4 ∷ 6 ∷ 12
+    ∷ 7 ∷ 8 ∷ 1 ∷ 9 ∷ 7 ∷ 14 ∷ 3 ∷ 10 ∷ 7 ∷ 2 ∷ 11 ∷ 4 ∷ 7 ∷ 14 ∷ 5 ∷ 9 ∷ 7 ∷ 14 ∷ 7 ∷ 11 ∷ []
 
 abbrev traceFile : List ℕ
 traceFile =
-    1 ∷ 1 ∷ 13 ∷ 0 ∷ 1 ∷ 2 ∷ 1 ∷ 3 ∷ 12 ∷ 0 ∷ 6 ∷ 1 ∷ 5 ∷ 1 ∷ 4 ∷ 3 ∷ 5 ∷ 12 ∷ 5 ∷ 1 ∷ 2 ∷ 6 ∷ 10 ∷ 4 ∷ 7 ∷ 8 ∷ 3 ∷ 6 ∷ 9 ∷ 4 ∷ 1 ∷ 8
-    ∷ 4 ∷ 11 ∷ 2 ∷ []
+    1 ∷ 1 ∷ 13 ∷ 0 ∷ 1 ∷ 2 ∷ 1 ∷ 7 ∷ 14 ∷ 12 ∷ 0 ∷ 6 ∷ 1 ∷ 7 ∷ 2 ∷ 1 ∷ 4 ∷ 7 ∷ 14 ∷ 5 ∷ 12 ∷ 7 ∷ 2 ∷ 1 ∷ 2 ∷ 6 ∷ 10 ∷ 7 ∷ 8 ∷ 7
+    ∷ 8 ∷ 7 ∷ 14 ∷ 6 ∷ 9 ∷ 7 ∷ 8 ∷ 1 ∷ 8 ∷ 7 ∷ 8 ∷ 11 ∷ 2 ∷ []
+
+-- .. and of request 1's
+abbrev branchesFile : List ℕ
+branchesFile =
+    3 ∷ 2 ∷ 37 ∷ 0 ∷ 1 ∷ 2 ∷ 1 ∷ 2 ∷ 2 ∷ 2 ∷ 3 ∷ 7 ∷ 14 ∷ 23 ∷ 0 ∷ 7 ∷ 14 ∷ 30 ∷ 0 ∷ 6 ∷ 1 ∷ 7 ∷ 2 ∷ 1 ∷ 7 ∷ 7 ∷ 14 ∷ 8 ∷ 34 ∷ 7
+    ∷ 2 ∷ 1 ∷ 2 ∷ 6 ∷ 13 ∷ 7 ∷ 8 ∷ 10 ∷ 11 ∷ 7 ∷ 14 ∷ 9 ∷ 12 ∷ 7 ∷ 8 ∷ 1 ∷ 11 ∷ 7 ∷ 8 ∷ 14 ∷ 2 ∷ 7 ∷ 14 ∷ 0 ∷ 0 ∷ 7 ∷ 2 ∷ 1 ∷ 3
+    ∷ 6 ∷ 21 ∷ 7 ∷ 8 ∷ 17 ∷ 18 ∷ 7 ∷ 14 ∷ 15 ∷ 19 ∷ 7 ∷ 2 ∷ 20 ∷ 16 ∷ 7 ∷ 8 ∷ 1 ∷ 18 ∷ 7 ∷ 8 ∷ 22 ∷ 3 ∷ 7 ∷ 2 ∷ 1 ∷ 4 ∷ 6 ∷ 28
+    ∷ 7 ∷ 8 ∷ 24 ∷ 25 ∷ 7 ∷ 14 ∷ 15 ∷ 26 ∷ 7 ∷ 2 ∷ 27 ∷ 16 ∷ 7 ∷ 8 ∷ 1 ∷ 25 ∷ 7 ∷ 8 ∷ 29 ∷ 4 ∷ 7 ∷ 14 ∷ 18 ∷ 25 ∷ 7 ∷ 14 ∷ 20
+    ∷ 27 ∷ 7 ∷ 14 ∷ 23 ∷ 30 ∷ 7 ∷ 2 ∷ 33 ∷ 32 ∷ 7 ∷ 14 ∷ 11 ∷ 31 ∷ 7 ∷ 14 ∷ 13 ∷ 32 ∷ []
 
 -- from fresh
 abbrev run : List ℕ → List ℕ → List ℕ → List ℕ → Run
@@ -116,7 +124,7 @@ fit state answer = record { state = state; answer = answer }
 
 -- P1: its file; next state 1
 abbrev pub p1 : Case
-p1 = accepted (0 ∷ 0 ∷ 0 ∷ []) 1 4 [] (run (0 ∷ []) (0 ∷ []) (0 ∷ []) (1 ∷ []) ∷ []) ((0 ∷ 0 ∷ 4 ∷ 0 ∷ 1 ∷ 6 ∷ 1 ∷ 5 ∷ 1 ∷ 2 ∷ []) ∷ [])
+p1 = accepted (0 ∷ 0 ∷ 0 ∷ []) 1 4 [] (run (0 ∷ []) (0 ∷ []) (0 ∷ []) (1 ∷ []) ∷ []) ((0 ∷ 0 ∷ 4 ∷ 0 ∷ 1 ∷ 6 ∷ 1 ∷ 7 ∷ 2 ∷ 1 ∷ 2 ∷ []) ∷ [])
 
 -- P2: states 3, 3
 abbrev pub p2 : Case
@@ -186,7 +194,16 @@ traced =
 abbrev pub guarded : Case
 guarded = accepted (0 ∷ 0 ∷ 8 ∷ 7 ∷ 6 ∷ 0 ∷ 9 ∷ 2 ∷ 1 ∷ []) 5 11 (fit 3 (answer 14 0) ∷ []) [] []
 
+-- request 1, "wait for C, then two branches, again": loop await 1; [await 2; emit 4 || await 3; emit 5] end. Signal 1 opens a round; the
+-- last event has it too, where the round ends, and the restart stops at the wait
+abbrev pub branches : Case
+branches =
+    accepted (3 ∷ 2 ∷ 4 ∷ 3 ∷ 6 ∷ 1 ∷ 1 ∷ 7 ∷ 3 ∷ 6 ∷ 2 ∷ 1 ∷ 2 ∷ 4 ∷ 3 ∷ 6 ∷ 3 ∷ 1 ∷ 2 ∷ 5 ∷ []) 13 37
+    (fit 11 (answer 14 0) ∷ fit 5 (acceptance 13 37) ∷ [])
+    (run (0 ∷ 2 ∷ 4 ∷ 10 ∷ []) (0 ∷ 0 ∷ 16 ∷ 32 ∷ []) (0 ∷ 0 ∷ 16 ∷ 32 ∷ []) (3 ∷ 13 ∷ 9 ∷ 3 ∷ []) ∷ [])
+    (branchesFile ∷ [])
+
 -- The table.
 abbrev pub cases : List Case
 cases =
-    p1 ∷ p2 ∷ p3 ∷ p4 ∷ p4-second ∷ p5 ∷ p6 ∷ p6-second ∷ p7 ∷ p7-second ∷ p8 ∷ p9 ∷ p10 ∷ p11 ∷ p12 ∷ traced ∷ guarded ∷ []
+    p1 ∷ p2 ∷ p3 ∷ p4 ∷ p4-second ∷ p5 ∷ p6 ∷ p6-second ∷ p7 ∷ p7-second ∷ p8 ∷ p9 ∷ p10 ∷ p11 ∷ p12 ∷ traced ∷ guarded ∷ branches ∷ []
