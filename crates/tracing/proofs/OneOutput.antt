@@ -1,6 +1,7 @@
 -- Nothing else satisfies the description: a state and a line have one state and one text that follow, and an input has one output.
 use Prim.Native.Nat.{ℕ}
 use mathlib.Core.Path.{_≡_, refl, sym, ap, ap₂, _∙_}
+use mathlib.Core.Bool.{Bool, false}
 use mathlib.Core.List.{List, [], _∷_, _++_}
 use native.Mathlib.Omega.{arith}
 use Rattle.sheet.specs.Read.{sheet}
@@ -9,13 +10,16 @@ use Rattle.verdicts.specs.declared.Reaction.{Reaction}
 use Rattle.verdicts.specs.Runs.{Once}
 use Rattle.sheet_entries.specs.Sheets.{Checked, ReactedMany}
 use Rattle.sheet_entries.proofs.OneSheetAnswer.{one-checked, one-reacted}
-use Rattle.digits.specs.declared.Value.the-variants.{Is, Bad}
-use Rattle.digits.specs.Bytes.{bytes, malformed}
+use Rattle.texts.specs.declared.Value.the-variants.{Is, Bad}
+use Rattle.texts.specs.Bytes.{bytes, malformed}
+use Rattle.texts.proofs.Truth.{true-false}
+use Rattle.tracing.specs.declared.Trace.{Trace}
 use Rattle.tracing.specs.declared.After.{After}
-use Rattle.tracing.specs.Steps.{State, first, running, stopped, sheetLine, eventLine, Headed, opened, moved, instantOf, Steps, stateOf, Stepped}
+use Rattle.tracing.specs.Steps.{State, first, running, stopped, sheetLine, eventLine, Headed, opened, moved, instantOf, Steps}
 use Rattle.tracing.specs.Steps.{sheet-malformed, sheet-refused, sheet-accepted, event-malformed, event-refused, instant, after-stop}
+use Rattle.tracing.specs.Stands.{Stands, stepOf, Does}
 use Rattle.tracing.specs.Texts.{okText, refusedText}
-use Rattle.tracing.specs.Output.{Printed, no-line, next-line, Traced}
+use Rattle.tracing.specs.Output.{Turn, a-step, anew, Printed, no-line, next-line, Traced, Answered}
 
 pub record SameStep (t t′ : State) (x x′ : List ℕ) : Type 0 where
   pub state : t ≡ t′
@@ -98,28 +102,49 @@ one-step (running h) {line} (instant a c p) (instant b d q) =
     record { state = ap (λ (r : Reaction). running (moved h r)) one; text = ap (instantOf h) one }
 one-step stopped after-stop after-stop = same
 
--- so the contract of a step leaves nothing open: the state that the code's answer and its column mean, the length, and the buffer
-pub record SameAnswer (t t′ : State) (len len′ : ℕ) (out out′ : List ℕ) : Type 0 where
-  pub state : t ≡ t′
-  pub length : len ≡ len′
+-- so the contract of a step leaves open only how the code keeps its state: two answers stand for one state, and place and buffer are the same
+pub record SameAnswer (r r′ : After) (rows statics rows′ statics′ out out′ : List ℕ) : Type 0 where
+  pub state : State
+  pub one : Stands (r .trace) rows statics state
+  pub other : Stands (r′ .trace) rows′ statics′ state
+  pub place : r .end ≡ r′ .end
   pub buffer : out ≡ out′
 
-pub one-stepped : (t : State) (line out : List ℕ) {r r′ : After} {column column′ after after′ : List ℕ} → Stepped t line r column out after
-    → Stepped t line r′ column′ out after′ → SameAnswer (stateOf (r .trace) column) (stateOf (r′ .trace) column′) (r .len) (r′ .len) after after′
-one-stepped t line out a b =
-    let one = one-step t (a .steps) (b .steps) in
+pub one-stepped : {t : Trace} (x : State) (line : List ℕ) {at : ℕ} {rows statics out : List ℕ} {r r′ : After} {rows₁ rows₂ statics₁ statics₂ out₁ out₂ : List ℕ}
+    → Stands t rows statics x → Does (stepOf line) t at r rows rows₁ statics statics₁ out out₁
+    → Does (stepOf line) t at r′ rows rows₂ statics statics₂ out out₂ → SameAnswer r r′ rows₁ statics₁ rows₂ statics₂ out₁ out₂
+one-stepped x line stands a b =
+    let did = a .from x stands in
+    let does = b .from x stands in
+    let one = one-step x (did .moves) (does .moves) in
     record {
-      state = one .state;
-      length = a .written .past ∙ rw (one .text) (sym (b .written .past));
-      buffer = a .written .laid ∙ rw (one .text) (sym (b .written .laid));
+      state = did .next;
+      one = did .stands;
+      other = rw (one .state) (does .stands);
+      place = did .written .past ∙ rw (one .text) (sym (does .written .past));
+      buffer = did .written .laid ∙ rw (one .text) (sym (does .written .laid));
     }
 
-one-printed : (t : State) (lines : List (List ℕ)) {x y : List ℕ} → Printed t lines x → Printed t lines y → x ≡ y
-one-printed t [] no-line no-line = refl
-one-printed t (line ∷ lines) (next-line {t′ = u} a p) (next-line b q) =
-    let one = one-step t a b in
-    ap₂ (λ (x y : List ℕ). x ++ y) (one .text) (one-printed u lines p (rw (sym (one .state)) at q))
+one-turn : (many : Bool) (t : State) {line : List ℕ} {u v : State} {x y : List ℕ} → Turn many t line u x → Turn many t line v y → SameStep u v x y
+one-turn many t (a-step other a) (a-step other′ b) = one-step t a b
+one-turn many t (a-step other a) (anew is) = true-false (sym is ∙ other)
+one-turn many t (anew is) (a-step other b) = true-false (sym is ∙ other)
+one-turn many t (anew is) (anew is′) = same
+
+pub one-printed : (many : Bool) (t : State) (lines : List (List ℕ)) {u v : State} {x y : List ℕ} → Printed many t lines u x → Printed many t lines v y
+    → SameStep u v x y
+one-printed many t [] no-line no-line = same
+one-printed many t (line ∷ lines) (next-line {t₁ = u} a p) (next-line b q) =
+    let one = one-turn many t a b in
+    let rest = one-printed many u lines p (rw (sym (one .state)) at q) in
+    record { state = rest .state; text = ap₂ (λ (x y : List ℕ). x ++ y) (one .text) (rest .text) }
 
 -- the whole output of an input
 pub one-output : (input : List ℕ) {x y : List ℕ} → Traced input x → Traced input y → x ≡ y
-one-output input a b = one-printed first _ a b
+one-output input a b = one-printed false first _ (a .printed) (b .printed) .text
+
+-- the contract of the whole trace leaves nothing open
+pub one-answer : (input : List ℕ) {n n′ : ℕ} {out out₁ out₂ : List ℕ} → Answered input n out out₁ → Answered input n′ out out₂ → (n ≡ n′) × (out₁ ≡ out₂)
+one-answer input a b =
+    let one = one-output input (a .traced) (b .traced) in
+    (a .written .past ∙ rw one (sym (b .written .past)), a .written .laid ∙ rw one (sym (b .written .laid)))

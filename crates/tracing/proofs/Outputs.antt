@@ -1,45 +1,21 @@
--- The outputs among the signals of a word.
+-- The outputs in a set of signals: their definition by numbers, and what is in both the signals and the set of all outputs.
 use Prim.Native.Nat.{ℕ, suc, _+_, _-_, _*_, _/_, _%_, _^_, _≤_, _<_}
-use mathlib.Core.Path.{_≡_, sym, ap, _∙_}
-use mathlib.Core.Bool.{false, _&&_}
-use native.Mathlib.Nat.{lt-of-lt-of-le, lt-of-le-of-lt, le-trans, mul-le-mul-right, mul-assoc, pow-suc, pow-le-pow-right, one-le-pow}
-use native.Mathlib.Nat.{div-eq-of-lt, div-mul-le-self, div-le-self, mod-lt, mod-le, mod-eq-of-lt, mul-mod-left, zero-mod, zero-mul}
+use mathlib.Core.Path.{_≡_, refl, sym, ap, _∙_}
+use mathlib.Core.Bool.{Bool, true, false, _&&_, _||_, and-comm, or-false}
+use native.Mathlib.Nat.{mul-assoc, pow-suc, mod-lt, mul-mod-left}
 use native.Mathlib.Decide.{decLt}
-use borrow.Author.Tests.{lt-ltb, le-ltb, le-leb, lt-leb}
-use lib.Dec.{leb, ltb}
-use lib.Pow.{pow-pos, pow-add, shl-shr, shr-shr, field, mod-mod-pow}
 use native.Mathlib.Omega.{arith}
-use Rattle.bits.proofs.Laws.{has-past, one-shifted}
-use Rattle.bits.specs.Bits.{has}
+use borrow.Author.Tests.{lt-ltb, le-ltb, le-leb, lt-leb, eq-eqb, ne-eqb}
+use lib.Dec.{eqb, leb, ltb}
+use lib.Pow.{pow-pos, pow-add, shl-shr, shr-shr, field, mod-mod-pow}
+use Rattle.bits.specs.declared.Bits.{Bits}
+use Rattle.bits.specs.Bits.{has, whole, width}
+use Rattle.bits.proofs.Laws.{has-past, empty, ext}
+use Rattle.bits.proofs.Whole.{Proper, has-wide}
 use Rattle.tracing.specs.Steps.{outputsIn}
+use Rattle.tracing.specs.Stands.{Outputs}
 
-pub some-power : (O : ℕ) → O < 64 → 0 < (1 * 2 ^ O) % 2 ^ 64
-some-power O h = rw (one-shifted 64 O h) (one-le-pow O 2 (omega arith))
-
-module _ (I O w : ℕ) (fits : w < 2 ^ 64) where
-  -- no bit so high is in a word
-  pub none-above : 63 ≤ I → 0 ≡ outputsIn I O w
-  unfolding outputsIn
-  none-above h =
-      let under : w < 2 ^ (1 + I) = lt-of-lt-of-le fits (pow-le-pow-right {n = 2} (omega arith) {i = 64} (omega arith)) in
-      rw (div-eq-of-lt under, zero-mod (2 ^ O), zero-mul (2 ^ (1 + I)))
-
-  -- what is put back where it was fits again
-  back : (x : ℕ) → x ≤ w / 2 ^ (1 + I) → (x * 2 ^ (1 + I)) % 2 ^ 64 ≡ x * 2 ^ (1 + I)
-  back x h = mod-eq-of-lt (lt-of-le-of-lt (le-trans (mul-le-mul-right (2 ^ (1 + I)) h) (div-mul-le-self w (2 ^ (1 + I)))) fits)
-
-  pub all-above : 64 ≤ O → (w / 2 ^ (1 + I) * 2 ^ (1 + I)) % 2 ^ 64 ≡ outputsIn I O w
-  unfolding outputsIn
-  all-above h =
-      let above : ℕ = w / 2 ^ (1 + I) in
-      let under : above < 2 ^ O = lt-of-lt-of-le (lt-of-le-of-lt (div-le-self w (2 ^ (1 + I))) fits) (pow-le-pow-right (omega arith) h) in
-      back above (omega arith) ∙ ap (λ (k : ℕ). k * 2 ^ (1 + I)) (sym (mod-eq-of-lt under))
-
-  pub some-above : O < 64 → (w / 2 ^ (1 + I) % ((1 * 2 ^ O) % 2 ^ 64) * 2 ^ (1 + I)) % 2 ^ 64 ≡ outputsIn I O w
-  unfolding outputsIn
-  some-above h = rw (one-shifted 64 O h, back (w / 2 ^ (1 + I) % 2 ^ O) (mod-le (w / 2 ^ (1 + I)) (2 ^ O)))
-
--- What the outputs of a word are: the signals 1+I to I+O that it has.
+-- What the outputs in a set are: the signals 1+I to I+O that it has.
 module _ (x k : ℕ) where
   -- nothing is below what is shifted up
   low-end : (d : ℕ) → has (x * 2 ^ (suc d + k)) k ≡ false
@@ -85,3 +61,49 @@ has-outputs I O w k = by-inputs (decLt I k)
     by-inputs (no h) =
         let count : 1 + I ≡ suc (I - k) + k = omega arith in
         rw (le-ltb I k (omega arith)) (ap (λ (e : ℕ). has (above % 2 ^ O * 2 ^ e) k) count ∙ low-end (above % 2 ^ O) k (I - k))
+
+-- The outputs below s are in the set: what holds while they are added.
+pub record Added (I s set : ℕ) : Type 0 where
+  pub these : (j : ℕ) → j < width → has set j ≡ (ltb I j && ltb j s)
+
+-- a signal stands behind the inputs and before the first output
+pub none-added : {I set : ℕ} → set ≡ 0 → Added I (1 + I) set
+none-added {I} is = record { these = λ j _. rw is (empty j ∙ none j (decLt I j)) }
+  where
+    none : (j : ℕ) → Dec (I < j) → false ≡ (ltb I j && ltb j (1 + I))
+    none j (yes h) = rw (lt-ltb I j h, le-ltb j (1 + I) (omega arith))
+    none j (no h) = rw (le-ltb I j (omega arith))
+
+pub one-added : {I s set set′ : ℕ} → I < s → Added I s set → ((j : ℕ) → has set′ j ≡ (has set j || eqb j s)) → Added I (s + 1) set′
+one-added {I} {s} {set} after a more = record { these = λ j h. more j ∙ rw (a .these j h) (by-place j (decLt j s) (decLt s j)) }
+  where
+    by-place : (j : ℕ) → Dec (j < s) → Dec (s < j) → ((ltb I j && ltb j s) || eqb j s) ≡ (ltb I j && ltb j (s + 1))
+    by-place j (yes h) q = rw (lt-ltb j s h, lt-ltb j (s + 1) (omega arith), ne-eqb j s (λ e. omega arith)) (or-false (ltb I j && true))
+    by-place j (no h) (yes g) = rw (le-ltb j s (omega arith), le-ltb j (s + 1) (omega arith), ne-eqb j s (λ e. omega arith)) (or-false (ltb I j && false))
+    by-place j (no h) (no g) =
+        let same : j ≡ s = omega arith in
+        rw (same, lt-ltb I s after, le-ltb s s (omega arith), eq-eqb s s refl, lt-ltb s (s + 1) (omega arith))
+
+-- all are added, or all that have a bit
+pub all-added : {I O s set : ℕ} → s ≤ 1 + I + O → 1 + I + O ≤ s → Added I s set → Outputs I O set
+all-added {I} {O} {s} most least a = record { these = λ j h. a .these j h ∙ ap (λ (b : Bool). ltb I j && b) (by-place j (decLt j s)) }
+  where
+    by-place : (j : ℕ) → Dec (j < s) → ltb j s ≡ leb j (I + O)
+    by-place j (yes h) = rw (lt-ltb j s h, le-leb j (I + O) (omega arith))
+    by-place j (no h) = rw (le-ltb j s (omega arith), lt-leb j (I + O) (omega arith))
+
+pub wide-added : {I O s set : ℕ} → s ≤ 1 + I + O → width ≤ s → Added I s set → Outputs I O set
+wide-added {I} {O} {s} most wide a =
+    record { these = λ j h. a .these j h ∙ rw (lt-ltb j s (omega arith), le-leb j (I + O) (omega arith)) }
+
+-- what is in the signals and in that set
+pub met-outputs : (I O : ℕ) (signals : Bits) {set met : ℕ} → Proper (signals .words) → Outputs I O set
+    → ((j : ℕ) → has met j ≡ (has (whole signals) j && has set j)) → met ≡ outputsIn I O (whole signals)
+met-outputs I O signals {set} {met} proper outs both = ext met (outputsIn I O (whole signals)) (λ j. by-width j (decLt j width))
+  where
+    by-width : (j : ℕ) → Dec (j < width) → has met j ≡ has (outputsIn I O (whole signals)) j
+    by-width j (yes h) =
+        both j ∙ rw (outs .these j h) (and-comm (has (whole signals) j) (ltb I j && leb j (I + O)) ∙ sym (has-outputs I O (whole signals) j))
+    by-width j (no h) =
+        let none = has-wide {b = signals} proper j (omega arith) in
+        both j ∙ rw none (sym (has-outputs I O (whole signals) j ∙ rw none (and-comm (ltb I j && leb j (I + O)) false)))

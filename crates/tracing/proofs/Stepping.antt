@@ -1,129 +1,177 @@
 -- What the functions behind a step answer makes the step of the definition.
 use Prim.Native.Nat.{ℕ, _/_, _≤_, _<_}
-use mathlib.Core.Path.{_≡_, sym, ap, _∙_}
-use mathlib.Core.Bool.{Bool, true, false}
+use mathlib.Core.Path.{_≡_, refl, sym, ap, _∙_}
+use mathlib.Core.Bool.{true, false}
 use mathlib.Core.List.{List, []}
 use native.Mathlib.Omega.{arith}
 use borrow.Author.Tests.{le-leb, lt-leb}
-use lib.ListN.{length, take, length-append}
-use lib.Seq.{length-sets}
-use Rattle.io.specs.Counts.{Counts}
-use Rattle.io.proofs.Counting.{counts}
-use Rattle.netlists.specs.Write.{Writes}
-use Rattle.netlists.proofs.Laying.{nothing-writes}
-use Rattle.bits.specs.Bits.{has, whole}
-use Rattle.rules.specs.States.{atRest}
+use lib.ListN.{length, take}
+use Rattle.bits.specs.Bits.{whole}
+use Rattle.compiler.specs.Check.{Accepted}
+use Rattle.sheet.specs.Read.{Sheet}
+use Rattle.interpreter.specs.Program.{PreparedAs, Prepared, AcceptedRuns, ProgramReacts}
 use Rattle.verdicts.specs.declared.Reaction.{Reaction}
-use Rattle.verdicts.specs.declared.Listing.{Listing}
 use Rattle.verdicts.specs.Runs.{Once}
 use Rattle.sheet_entries.specs.Sheets.{ReactedMany}
-use Rattle.compile_entries.specs.Compile.{Listed}
-use Rattle.digits.specs.declared.Value.the-variants.{Is, Bad}
-use Rattle.digits.specs.declared.Hex.{Hex}
-use Rattle.digits.specs.Digits.{valueOf}
-use Rattle.digits.specs.Bytes.{Decoded, bytes, malformed, bytesWithin, Unhexed}
-use Rattle.digits.proofs.Pairs.{within, were-bytes, were-none}
+use Rattle.sheet_entries.proofs.SheetEntries.{many-ran}
+use Rattle.texts.specs.declared.Value.the-variants.{Is, Bad}
+use Rattle.texts.specs.declared.Hex.{Hex}
+use Rattle.texts.specs.declared.SetRead.{SetRead}
+use Rattle.texts.specs.Digits.{valueOf, SetIs}
+use Rattle.texts.specs.Bytes.{Decoded, bytes, malformed, bytesWithin, Unhexed}
+use Rattle.texts.specs.Written.{badText}
+use Rattle.texts.specs.Puts.{Puts}
+use Rattle.texts.proofs.Pairs.{within, were-bytes, were-none}
+use Rattle.texts.proofs.Putting.{puts-none}
+use Rattle.texts.proofs.Sets.{was-set, was-no-set}
+use Rattle.tracing.specs.declared.Awaited.the-variants.{Sheet as ASheet, Event, Nothing}
 use Rattle.tracing.specs.declared.Trace.{Trace}
-use Rattle.tracing.specs.declared.Trace.the-variants.{Running, Stopped}
-use Rattle.tracing.specs.declared.Run.{Run}
 use Rattle.tracing.specs.declared.After.{After}
-use Rattle.tracing.specs.Texts.{okText, refusedText, restText, instantText, badText}
-use Rattle.tracing.specs.Steps.{State, first, running, stopped, held, sheetLine, eventLine, Steps, stateOf, Prints, Stepped}
-use Rattle.tracing.specs.Steps.{counted, outputsIn, lowWord, movedRun, instantOf}
+use Rattle.tracing.specs.Sizes.{sheetDigits, sheetRoom, eventDigits}
+use Rattle.tracing.specs.Texts.{refusedText}
+use Rattle.tracing.specs.Steps.{Held, State, first, running, stopped, sheetLine, eventLine, Steps, counted}
 use Rattle.tracing.specs.Steps.{sheet-malformed, sheet-refused, sheet-accepted, event-malformed, event-refused, instant, after-stop}
-use Rattle.tracing.proofs.Numerals.{decimal-short, hex-short}
-use Rattle.tracing.proofs.Opening.{was-checked, was-headed}
+use Rattle.tracing.specs.Stands.{Holding, Stands, for-first, for-running, for-stopped, Sound}
+use Rattle.tracing.specs.Stands.{Prints, Moves, Opens, not-opened, is-opened, Move, stepOf, Leads, Does}
 
--- a line of more than 2,048 digits is malformed, and the bytes of any other have room
-pub too-long : (line : List ℕ) → 2048 < length line → sheetLine line ≡ malformed
+-- which state a trace stands for, by what it awaits
+module _ {move : Move} {t : Trace} {at : ℕ} {r : After} {rows rows′ statics statics′ out out′ : List ℕ} where
+  from-first : t .awaited ≡ ASheet → Leads move first at r rows′ statics′ out out′ → Does move t at r rows rows′ statics statics′ out out′
+  from-first is did = record { from = by-state }
+    where
+      by-state : (x : State) → Stands t rows statics x → Leads move x at r rows′ statics′ out out′
+      by-state first (for-first e) = did
+      by-state (running h) (for-running e held) = let z : _≡_ {A = ℕ} 0 1 = cc in absurd (omega arith)
+      by-state stopped (for-stopped e) = let z : _≡_ {A = ℕ} 0 1 = cc in absurd (omega arith)
+
+  from-running : t .awaited ≡ Event → ((h : Held) → Holding t rows statics h → Leads move (running h) at r rows′ statics′ out out′)
+      → Does move t at r rows rows′ statics statics′ out out′
+  from-running is did = record { from = by-state }
+    where
+      by-state : (x : State) → Stands t rows statics x → Leads move x at r rows′ statics′ out out′
+      by-state first (for-first e) = let z : _≡_ {A = ℕ} 0 1 = cc in absurd (omega arith)
+      by-state (running h) (for-running e held) = did h held
+      by-state stopped (for-stopped e) = let z : _≡_ {A = ℕ} 0 1 = cc in absurd (omega arith)
+
+  from-stopped : t .awaited ≡ Nothing → Leads move stopped at r rows′ statics′ out out′ → Does move t at r rows rows′ statics statics′ out out′
+  from-stopped is did = record { from = by-state }
+    where
+      by-state : (x : State) → Stands t rows statics x → Leads move x at r rows′ statics′ out out′
+      by-state first (for-first e) = let z : _≡_ {A = ℕ} 0 1 = cc in absurd (omega arith)
+      by-state (running h) (for-running e held) = let z : _≡_ {A = ℕ} 0 1 = cc in absurd (omega arith)
+      by-state stopped (for-stopped e) = did
+
+-- where an event is awaited a program is ready
+pub sound-ready : {t : Trace} {rows statics : List ℕ} → Sound t rows statics → t .awaited ≡ Event → Prepared (t .program) rows statics
+sound-ready {t} {rows} {statics} sound is = by-state (sound .state) (sound .stands)
+  where
+    by-state : (x : State) → Stands t rows statics x → Prepared (t .program) rows statics
+    by-state first (for-first e) = let z : _≡_ {A = ℕ} 0 1 = cc in absurd (omega arith)
+    by-state (running h) (for-running e held) = record { read = held .read-as; is = held .ready }
+    by-state stopped (for-stopped e) = let z : _≡_ {A = ℕ} 0 1 = cc in absurd (omega arith)
+
+-- a line that ends the trace
+stops : {x : State} {line text : List ℕ} {at : ℕ} {r : After} {rows′ statics′ out out′ : List ℕ} → Steps x line stopped text → Prints Nothing text at r out out′
+    → Leads (stepOf line) x at r rows′ statics′ out out′
+stops did p = record { next = stopped; text = _; moves = did; stands = for-stopped (p .awaits); written = p .written }
+
+-- a line of more digits is malformed, and the bytes of any other have room
+pub too-long : (line : List ℕ) → sheetDigits < length line → sheetLine line ≡ malformed
 unfolding sheetLine
-too-long line h = rw (lt-leb (length line) 2048 h)
-
-sheet-line : (line : List ℕ) (room : ℕ) {d : Decoded} → length line ≤ 2048 → 1024 ≤ room → bytesWithin room line ≡ d → sheetLine line ≡ d
-unfolding sheetLine
-sheet-line line room few long is =
-    let fits : length line / 2 ≤ room = omega arith in
-    rw (le-leb (length line) 2048 few) (sym (within line room fits) ∙ is)
-
--- the answer of a step
-answered : {t : State} {line text : List ℕ} {next : Trace} {r : After} {column out out′ : List ℕ} → Steps t line (stateOf next column) text
-    → Prints next text r out out′ → Stepped t line r column out out′
-answered {text = text} did p = record { text = text; steps = rw (p .next) did; written = p .written }
+too-long line h = rw (lt-leb (length line) sheetDigits h)
 
 -- the sheet's line
-module _ (line : List ℕ) {r : After} {column out out′ : List ℕ} where
-  pub first-long : 2048 < length line → Prints Stopped badText r out out′ → Stepped first line r column out out′
-  unfolding stateOf
-  first-long h p = answered (sheet-malformed (too-long line h)) p
+module _ (line : List ℕ) {x : Hex} {buffer buffer′ : List ℕ} (few : length line ≤ sheetDigits) (long : sheetRoom ≤ length buffer)
+    (read : Unhexed line x buffer buffer′) where
+  read-as : {d : Decoded} → bytesWithin (length buffer) line ≡ d → sheetLine line ≡ d
+  unfolding sheetLine
+  read-as e =
+      let fits : length line / 2 ≤ length buffer = omega arith in
+      rw (le-leb (length line) sheetDigits few) (sym (within line (length buffer) fits) ∙ e)
 
-  module _ (room : ℕ) {x : Hex} {column′ : List ℕ} (few : length line ≤ 2048) (long : 1024 ≤ room) (read : Unhexed line x room column′) where
-    pub first-bad : x .good ≡ false → Prints Stopped badText r out out′ → Stepped first line r column out out′
-    unfolding stateOf
-    first-bad bad p = answered (sheet-malformed (sheet-line line room few long (were-none read bad))) p
+  these : x .good ≡ true → sheetLine line ≡ bytes (take (x .len) buffer′)
+  these good = read-as (were-bytes read good)
 
-module _ (line : List ℕ) (room : ℕ) {x : Hex} {column : List ℕ} (few : length line ≤ 2048) (long : 1024 ≤ room) (read : Unhexed line x room column)
-    (good : x .good ≡ true) {l : Listing} {words words′ : List ℕ} (all : 1024 ≤ length words) (listed : Listed (take (x .len) column) l words words′) where
-  these : sheetLine line ≡ bytes (take (x .len) column)
-  these = sheet-line line room few long (were-bytes read good)
+module _ {t : Trace} (is : t .awaited ≡ ASheet) (line : List ℕ) {at : ℕ} {r : After} {rows rows′ statics statics′ out out′ : List ℕ} where
+  pub first-long : sheetDigits < length line → Prints Nothing badText at r out out′ → Does (stepOf line) t at r rows rows′ statics statics′ out out′
+  first-long h p = from-first is (stops (sheet-malformed (too-long line h)) p)
 
-  pub first-refused : {r : After} {out out′ : List ℕ} → 0 < l .number → Prints Stopped (refusedText (l .number) (l .place)) r out out′
-      → Stepped first line r column out out′
-  unfolding stateOf
-  first-refused some p = answered (sheet-refused these (was-checked all listed) some) p
+  module _ {x : Hex} {buffer buffer′ : List ℕ} (few : length line ≤ sheetDigits) (long : sheetRoom ≤ length buffer) (read : Unhexed line x buffer buffer′) where
+    pub first-bad : x .good ≡ false → Prints Nothing badText at r out out′ → Does (stepOf line) t at r rows rows′ statics statics′ out out′
+    first-bad bad p = from-first is (stops (sheet-malformed (read-as line few long read (were-none read bad))) p)
 
-  pub first-accepted : {len : ℕ} {out out′ : List ℕ} → l .number ≡ 0 → Writes (okText (l .statements) (l .cells)) 0 len out out′
-      → Stepped first line
-      (record {
-        trace = Running (record { length = x .len; inputs = l .inputs; outputs = l .outputs; state = 0; instants = 0 });
-        len = len;
-      })
-      column out out′
-  unfolding stateOf
-  first-accepted none w =
-      record { text = _; steps = sheet-accepted these (was-checked all listed) none (was-headed all listed none); written = w }
+    pub first-opened : x .good ≡ true → Opens (take (x .len) buffer′) at r rows′ statics′ out out′
+        → Does (stepOf line) t at r rows rows′ statics statics′ out out′
+    first-opened good did = from-first is (opened-as did)
+      where
+        opened-as : Opens (take (x .len) buffer′) at r rows′ statics′ out out′ → Leads (stepOf line) first at r rows′ statics′ out out′
+        opened-as (not-opened was some p) = stops (sheet-refused (these line few long read good) was some) p
+        opened-as (is-opened was none head p held) =
+            record {
+              next = running _;
+              text = _;
+              moves = sheet-accepted (these line few long read good) was none head;
+              stands = for-running (p .awaits) held;
+              written = p .written;
+            }
+
+-- the reactions of the program made ready are those of its sheet
+react-of : {s : List ℕ} {w : Sheet} {state event : ℕ} {r : Reaction} → Accepted s w → Once (AcceptedRuns w) state event r → Once (ReactedMany s) state event r
+react-of was o = record { told = o .told; ran = many-ran was (o .ran); is = o .is }
+
+reacted : {t : Trace} {rows statics : List ℕ} {event : ℕ} {r : Reaction} {h : Held} → ProgramReacts (t .program) rows statics (whole (t .state)) event r
+    → Holding t rows statics h → Once (ReactedMany (h .sheet)) (h .state) event r
+reacted reacts held = rw (held .state) (react-of (held .accepts) (reacts .reacts (held .read-as) (held .ready)))
 
 -- an event's line
-module _ (run : Run) (column line : List ℕ) {a : After} {out out′ : List ℕ} where
-  pub event-bad : Bad ≡ valueOf 16 16 line → Prints Stopped badText a out out′ → Stepped (running (held run column)) line a column out out′
-  unfolding stateOf eventLine
-  event-bad is p = answered (event-malformed (sym is)) p
+is-event : (line : List ℕ) {e : SetRead} → SetIs (valueOf 16 eventDigits line) e → e .good ≡ true → eventLine line ≡ Is (whole (e .set))
+unfolding eventLine
+is-event line read good = was-set read good
 
-  module _ (n : ℕ) {event : ℕ} (is : Is event ≡ valueOf 16 16 line) (same : take n column ≡ take (run .length) column) {r : Reaction}
-      {state′ event′ : ℕ} (of-state : state′ ≡ run .state) (of-event : event′ ≡ event) (reacted : Once (ReactedMany (take n column)) state′ event′ r) where
-    pub event-no : 0 < r .number → Prints (Running run) (refusedText (r .number) (r .place)) a out out′
-        → Stepped (running (held run column)) line a column out out′
-    unfolding stateOf eventLine
-    event-no some p = answered (event-refused (sym is) (rw (same, of-state, of-event) at reacted) some) p
+module _ {t : Trace} (awaits : t .awaited ≡ Event) (line : List ℕ) {e : SetRead} (read : SetIs (valueOf 16 eventDigits line) e) {at : ℕ} {a : After}
+    {rows statics out out′ : List ℕ} where
+  pub event-bad : e .good ≡ false → Prints Nothing badText at a out out′ → Does (stepOf line) t at a rows rows statics statics out out′
+  unfolding eventLine
+  event-bad bad p = from-running awaits (λ h held. stops (event-malformed (was-no-set read bad)) p)
 
-    pub event-instant : r .number ≡ 0 → Prints (Running (movedRun run r)) (instantOf (held run []) r) a out out′
-        → Stepped (running (held run column)) line a column out out′
-    unfolding stateOf eventLine
-    event-instant none p = answered (instant (sym is) (rw (same, of-state, of-event) at reacted) none) p
+  module _ (good : e .good ≡ true) {r : Reaction} (reacts : ProgramReacts (t .program) rows statics (whole (t .state)) (whole (e .set)) r) where
+    pub event-no : 0 < r .number → a .trace ≡ t → Puts (refusedText (r .number) (r .place)) at (a .end) out out′
+        → Does (stepOf line) t at a rows rows statics statics out out′
+    event-no some same p =
+        from-running awaits
+        (λ h held.
+        record {
+          next = running h;
+          text = _;
+          moves = event-refused (is-event line read good) (reacted reacts held) some;
+          stands = rw same (for-running awaits held);
+          written = p;
+        })
+
+    pub event-instant : r .number ≡ 0 → Moves t r at a out out′ → Does (stepOf line) t at a rows rows statics statics out out′
+    event-instant none m =
+        from-running awaits
+        (λ h held.
+        record {
+          next = running _;
+          text = _;
+          moves = instant (is-event line read good) (reacted reacts held) none;
+          stands =
+              rw (m .next)
+              (for-running refl
+              (record {
+                read-as = held .read-as;
+                accepts = held .accepts;
+                ready = held .ready;
+                outputs = held .outputs;
+                state = refl;
+                instants = ap counted (held .instants);
+              }));
+          written = rw (held .instants) (m .written (h .inputs) (h .outputs) (held .outputs));
+        })
 
 -- after a stop nothing is done
-pub stopped-step : (line column out : List ℕ) → Stepped stopped line (record { trace = Stopped; len = 0 }) column out out
-unfolding stateOf
-stopped-step line column out = record { text = []; steps = after-stop; written = nothing-writes out 0 }
-
--- any text has room in 64 bytes
-rest-short : (b : Bool) → length (restText b) ≤ 3
-unfolding restText
-rest-short true = omega arith
-rest-short false = omega arith
-
-text-short : {t t′ : State} {line text : List ℕ} → Steps t line t′ text → length text ≤ 64
-unfolding okText refusedText instantText badText
-text-short (sheet-malformed is) = omega arith
-text-short (sheet-refused {r = r} is was some) = simp length-append (omega (arith, decimal-short (r .number), decimal-short (r .place)))
-text-short (sheet-accepted {r = r} is was none head) = simp length-append (omega (arith, decimal-short (r .statements), decimal-short (r .cells)))
-text-short (event-malformed is) = omega arith
-text-short (event-refused {r = r} is was some) = simp length-append (omega (arith, decimal-short (r .number), decimal-short (r .place)))
-text-short (instant {h = h} {r = r} is was none) =
-    let number = decimal-short (counted (h .instants)) in
-    let outputs = hex-short (outputsIn (h .inputs) (h .outputs) (lowWord (r .signals))) in
-    simp length-append (omega (arith, hex-short (lowWord (r .state)), rest-short (atRest (has (whole (r .state))))))
-text-short after-stop = omega arith
-
-pub text-counted : {t : State} {line : List ℕ} {r : After} {column out out′ : List ℕ} → 64 ≤ length out → Stepped t line r column out out′ → Counts (r .len) out′
-text-counted {r = r} {out = out} {out′ = out′} long did =
-    counts (r .len) out′ (omega (arith, did .written .past, ap length (did .written .laid), length-sets out 0 (did .text), text-short (did .steps)))
+pub stopped-step : {t : Trace} (line out rows statics : List ℕ) (at : ℕ) → t .awaited ≡ Nothing → at ≤ 18446744073709551615
+    → Does (stepOf line) t at (record { trace = t; end = at }) rows rows statics statics out out
+stopped-step line out rows statics at is h =
+    from-stopped is (record { next = stopped; text = []; moves = after-stop; stands = for-stopped is; written = puts-none out at h })

@@ -1,28 +1,24 @@
--- "Trace program": what one line does, and what is printed for all of them.
+-- "Trace program": what one line does, from a state and the line to a state and the text that is printed.
 use Prim.Native.Nat.{ℕ, _+_, _*_, _/_, _%_, _^_, _<_, min}
 use mathlib.Core.Path.{_≡_}
 use mathlib.Core.Bool.{cond}
 use mathlib.Core.List.{List, []}
 use lib.Dec.{leb}
-use lib.ListN.{length, take}
-use Rattle.bits.specs.declared.Bits.{Bits}
+use lib.ListN.{length}
 use Rattle.bits.specs.Bits.{has, whole}
 use Rattle.sheet.specs.Read.{Sheet, sheet, readSheet}
 use Rattle.rules.specs.States.{atRest}
-use Rattle.netlists.specs.Write.{Writes}
 use Rattle.verdicts.specs.declared.Answer.{Answer}
 use Rattle.verdicts.specs.declared.Reaction.{Reaction}
 use Rattle.verdicts.specs.Runs.{Once}
 use Rattle.sheet_entries.specs.Sheets.{Checked, ReactedMany}
-use Rattle.digits.specs.declared.Value.{Value}
-use Rattle.digits.specs.declared.Value.the-variants.{Is, Bad}
-use Rattle.digits.specs.Digits.{valueOf}
-use Rattle.digits.specs.Bytes.{Decoded, bytes, malformed, bytesOf}
-use Rattle.tracing.specs.declared.Trace.{Trace}
-use Rattle.tracing.specs.declared.Trace.the-variants.{First, Running, Stopped}
-use Rattle.tracing.specs.declared.Run.{Run}
-use Rattle.tracing.specs.declared.After.{After}
-use Rattle.tracing.specs.Texts.{okText, refusedText, instantText, badText}
+use Rattle.texts.specs.declared.Value.{Value}
+use Rattle.texts.specs.declared.Value.the-variants.{Is, Bad}
+use Rattle.texts.specs.Digits.{valueOf}
+use Rattle.texts.specs.Bytes.{Decoded, bytes, malformed, bytesOf}
+use Rattle.texts.specs.Written.{badText}
+use Rattle.tracing.specs.Sizes.{sheetDigits, eventDigits}
+use Rattle.tracing.specs.Texts.{okText, refusedText, instantText}
 
 -- an accepted sheet, its numbers of inputs and of outputs, the state, and how many instants were counted
 pub record Held : Type 0 where
@@ -40,11 +36,11 @@ pub data State : Type 0 where
 
 -- "first input line a sheet in hex (up to 2,048 digits)", "a sheet line has an even count of digits"
 unfoldable pub sheetLine : List ℕ → Decoded
-sheetLine line = cond (leb (length line) 2048) (bytesOf line) malformed
+sheetLine line = cond (leb (length line) sheetDigits) (bytesOf line) malformed
 
 -- "then one event in hex a line", "an event line 1 to 16"
 unfoldable pub eventLine : List ℕ → Value
-eventLine line = valueOf 16 16 line
+eventLine line = valueOf 16 eventDigits line
 
 -- "A sheet is: number of inputs I, of outputs O, one statement."
 pub record Headed (s : List ℕ) (I O : ℕ) : Type 0 where
@@ -61,21 +57,17 @@ opened s I O = record { sheet = s; inputs = I; outputs = O; state = 0; instants 
 unfoldable pub counted : ℕ → ℕ
 counted instants = min (instants + 1) 18446744073709551615
 
--- the outputs among the signals of a word: "Signal 0 is tick, then I inputs, O outputs, then locals"
+-- the outputs in a set of signals: "Signal 0 is tick, then I inputs, O outputs, then locals"
 unfoldable pub outputsIn : ℕ → ℕ → ℕ → ℕ
 outputsIn I O w = w / 2 ^ (1 + I) % 2 ^ O * 2 ^ (1 + I)
 
--- what is kept and printed of a set: its lowest word, which is all of it where sets have one word
-abbrev pub lowWord : Bits → ℕ
-lowWord b = whole b % 2 ^ 64
-
 -- after an instant
 abbrev pub moved : Held → Reaction → Held
-moved h r = record { sheet = h .sheet; inputs = h .inputs; outputs = h .outputs; state = lowWord (r .state); instants = counted (h .instants) }
+moved h r = record { sheet = h .sheet; inputs = h .inputs; outputs = h .outputs; state = whole (r .state); instants = counted (h .instants) }
 
 abbrev pub instantOf : Held → Reaction → List ℕ
 instantOf h r =
-    instantText (counted (h .instants)) (outputsIn (h .inputs) (h .outputs) (lowWord (r .signals))) (lowWord (r .state)) (atRest (has (whole (r .state))))
+    instantText (counted (h .instants)) (outputsIn (h .inputs) (h .outputs) (whole (r .signals))) (whole (r .state)) (atRest (has (whole (r .state))))
 
 -- One line's step, from a state and the line to a state and the text that is printed. "after a refused sheet it stops, after a refused event the instant
 -- isn't counted"; "Any other line is malformed, prints `bad line` and stops."
@@ -91,28 +83,3 @@ pub data Steps : State → List ℕ → State → List ℕ → Type 0 where
   instant : {h : Held} {line : List ℕ} {event : ℕ} {r : Reaction} → eventLine line ≡ Is event → Once (ReactedMany (h .sheet)) (h .state) event r → r .number ≡ 0
       → Steps (running h) line (running (moved h r)) (instantOf h r)
   after-stop : {line : List ℕ} → Steps stopped line stopped []
-
--- what the code's state means, with the column that has the sheet's bytes
-abbrev pub held : Run → List ℕ → Held
-held run column =
-    record { sheet = take (run .length) column; inputs = run .inputs; outputs = run .outputs; state = run .state; instants = run .instants }
-
-unfoldable pub stateOf : Trace → List ℕ → State
-stateOf First column = first
-stateOf (Running run) column = running (held run column)
-stateOf Stopped column = stopped
-
-abbrev pub movedRun : Run → Reaction → Run
-movedRun run r =
-    record { length = run .length; inputs = run .inputs; outputs = run .outputs; state = lowWord (r .state); instants = counted (run .instants) }
-
--- An answer: what is awaited next, and the text, which stands at the buffer's start and has the length that is answered.
-pub record Prints (t : Trace) (text : List ℕ) (r : After) (out out′ : List ℕ) : Type 0 where
-  pub next : r .trace ≡ t
-  pub written : Writes text 0 (r .len) out out′
-
--- A step was made: the state with its column, and the buffer, before and after.
-pub record Stepped (t : State) (line : List ℕ) (r : After) (column′ out out′ : List ℕ) : Type 0 where
-  pub text : List ℕ
-  pub steps : Steps t line (stateOf (r .trace) column′) text
-  pub written : Writes text 0 (r .len) out out′

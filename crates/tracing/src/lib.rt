@@ -1,57 +1,114 @@
-// A trace: a sheet, and the instants of its reactions. One line's step, from state and line to state and text.
+// A trace: a sheet, and the instants of its reactions. One line's step, from state and line to state and text; all lines that reads bring; the whole output of
+// an input; and the program, of which no contract says more than that it is safe, since its bytes come from and go to the system: it reads, answers what was
+// read, writes, and so on.
+mod feeding;
 mod text;
 
-use digits::Value;
-use krankovel::Bits;
-use krankovel::Reaction;
+use bits::Bits;
+use compiler::Compiled;
+pub use feeding::feed;
+pub use feeding::serve;
+pub use feeding::traced;
+use interpreter::Program;
+use sheet::Counts;
+use texts::Source;
+use verdicts::Reaction;
 ghost use mathlib.Core.Path.{_≡_};
-ghost use Prim.Native.Nat.{_≤_};
-ghost use mathlib.Core.List.{[]};
-ghost use lib.ListN.{length, take};
-ghost use Rattle.io.specs.Counts.{Counts};
-ghost use Rattle.tracing.specs.Texts.{refusedText, badText};
-ghost use Rattle.tracing.specs.Steps.{Prints, Stepped};
+ghost use Prim.Native.Nat.{ℕ};
+ghost use Rattle.bits.specs.Bits.{whole};
+ghost use Rattle.rules.specs.Words.{Runnable, root};
+ghost use Rattle.interpreter.specs.Program.{Prepared};
+ghost use Rattle.texts.specs.Written.{badText};
+ghost use Rattle.texts.specs.Puts.{Puts};
+ghost use Rattle.tracing.specs.Texts.{refusedText};
 ghost use Rattle.tracing.specs.Steps as Steps;
+ghost use Rattle.tracing.specs.Stands.{Outputs, Columns, Sound, Prints, Ready, Opens, Moves, stepOf, Does};
 
-// The most hex digits of a sheet's line.
-const DIGITS: usize = 2048;
+// "a sheet in hex (up to 2,048 digits)"
+const SHEET_DIGITS: usize = 2048;
 
-// What was accepted: how many bytes of the lent column are the sheet's, its numbers of inputs and outputs, the state and the instants counted. The state is
-// one word, since an enum holds no array.
-pub struct Run {
-    pub length: usize,
-    pub inputs: u16,
-    pub outputs: u16,
-    pub state: u64,
+// The bytes of the longest sheet.
+const SHEET_ROOM: usize = SHEET_DIGITS / 2;
+
+// One byte more than the longest line that is well-formed: a line that is cut there is malformed all the same.
+pub const LINE_ROOM: usize = SHEET_DIGITS + 1;
+
+// What is awaited: the sheet's line, an event's, or nothing more.
+pub enum Awaited {
+    Sheet,
+    Event,
+    Nothing,
+}
+
+// What is awaited and, once a sheet was accepted, the program that was made ready of it, its outputs, the state and the instants counted. The program's rows and
+// static sets stand beside it, in lent columns.
+pub struct Trace {
+    pub awaited: Awaited,
+    pub program: Program,
+    pub outputs: Bits,
+    pub state: Bits,
     pub instants: u64,
 }
 
-// What is awaited: the sheet's line, an event's, or nothing more.
-pub enum Trace {
-    First,
-    Running(Run),
-    Stopped,
-}
-
-// The state after a line, and the length of the text that it prints.
+// The state after a line, and the place past the text that it prints.
 pub struct After {
     pub trace: Trace,
-    pub len: usize,
+    pub end: usize,
 }
 
-// The signals of a word that are outputs: 1+I to I+O. The tests keep each shift below the width of a word, whatever the two numbers are.
-fn outputs_in(inputs: u16, outputs: u16, signals: u64) -> u64
-    ensures { λ r. ⌜ r ≡ Steps.outputsIn inputs outputs signals ⌝ }
+// The state after the lines of the bytes at hand, these bytes as they are left, the length of the text that the lines print, and whether to go on.
+pub struct Fed {
+    pub trace: Trace,
+    pub source: Source,
+    pub len: usize,
+    pub more: bool,
+}
+
+// A trace that runs nothing.
+fn awaiting(awaited: Awaited) -> Trace
+    ensures { λ r. ⌜ r .awaited ≡ awaited ⌝ }
 {
-    if inputs >= 63 {
-        return 0;
+    Trace {
+        awaited,
+        program: Program {
+            counts: Counts {
+                inputs: 0,
+                outputs: 0,
+                statements: 0,
+                halts: 0,
+                signals: 0,
+            },
+            cells: 0,
+            asks: Bits::empty(),
+        },
+        outputs: Bits::empty(),
+        state: Bits::empty(),
+        instants: 0,
     }
-    let from = 1 + inputs as u32;
-    let above = signals >> from;
-    if outputs >= 64 {
-        return above << from;
+}
+
+// "Signal 0 is tick, then I inputs, O outputs": the outputs, 1+I to I+O, as far as a set has bits for them.
+fn outputs_of(inputs: u16, outputs: u16) -> Bits
+    ensures { λ r. ⌜ Outputs inputs outputs (whole r) ⌝ }
+{
+    let past = 1 + inputs as u32 + outputs as u32;
+    let mut set = Bits::empty();
+    let mut s = 1 + inputs as u32;
+    while s < past {
+        if bits::WIDTH <= s {
+            return set;
+        }
+        set = set.add(s);
+        s += 1;
     }
-    (above % (1u64 << (outputs as u32))) << from
+    set
+}
+
+// The outputs among some signals, where `outputs` has all outputs.
+fn outputs_in(signals: Bits, outputs: Bits) -> Bits
+    ensures { λ r. ⌜ ((I O : ℕ) → Outputs I O (whole outputs) → whole r ≡ Steps.outputsIn I O (whole signals)) ⌝ }
+{
+    signals.meet(outputs)
 }
 
 // One instant more. A word can count all the lines that are ever read.
@@ -64,113 +121,151 @@ fn counted(instants: u64) -> u64
     instants + 1
 }
 
-fn bad_line(out: &mut [u8]) -> After
-    requires { ⌜ 64 ≤ length (now out) ⌝ }
-    ensures { λ r. ⌜ Prints Trace.Stopped badText r (now (out .entry)) (now (out .exit)) ⌝ }
+fn bad_line(out: &mut [u8], at: usize) -> After
+    ensures { λ r. ⌜ Prints Awaited.Nothing badText at r (now (out .entry)) (now (out .exit)) ⌝ }
 {
     After {
-        trace: Trace::Stopped,
-        len: text::bad_line(out),
+        trace: awaiting(Awaited::Nothing),
+        end: texts::put_bytes(out, at, b"bad line\n"),
     }
 }
 
-fn refused_line(trace: Trace, number: u8, place: usize, out: &mut [u8]) -> After
-    requires { ⌜ 64 ≤ length (now out) ⌝ }
-    ensures { λ r. ⌜ Prints trace (refusedText number place) r (now (out .entry)) (now (out .exit)) ⌝ }
+fn refused_line(number: u8, place: usize, out: &mut [u8], at: usize) -> usize
+    ensures { λ r. ⌜ Puts (refusedText number place) at r (now (out .entry)) (now (out .exit)) ⌝ }
 {
-    After {
-        trace,
-        len: text::refused_line(out, number as u64, place as u64),
+    text::word_line(out, at, b"no ", number as u64, place as u64)
+}
+
+// The trace of a sheet that was compiled into the rows: it is made ready, once for all events.
+fn ready(rows: &[u64], c: Counts, n: u16) -> Trace
+    requires { ⌜ Runnable (now rows) root ⌝ }
+    ensures { λ r. ⌜ Ready (now (rows .entry)) c n r ⌝ }
+{
+    Trace {
+        awaited: Awaited::Event,
+        program: interpreter::prepare(rows, c, n),
+        outputs: outputs_of(c.inputs, c.outputs),
+        state: Bits::empty(),
+        instants: 0,
     }
 }
 
-// The sheet's line. Its bytes stay in the column.
-fn first_line(column: &mut [u8], line: &[u8], out: &mut [u8]) -> After
-    requires { ⌜ (1024 ≤ length (now column)) × (64 ≤ length (now out)) ⌝ }
-    ensures { λ r. ⌜ Stepped Steps.first (now (line .entry)) r (now (column .exit)) (now (out .entry)) (now (out .exit)) ⌝ }
+// A sheet: refused, or compiled and made ready.
+fn open_sheet(s: &[u8], rows: &mut [u64], statics: &mut [u64], out: &mut [u8], at: usize) -> After
+    requires { ⌜ Columns (now rows) (now statics) ⌝ }
+    ensures { λ r. ⌜ Opens (now (s .entry)) at r (now (rows .exit)) (now (statics .exit)) (now (out .entry)) (now (out .exit)) ⌝ }
 {
-    if line.len() > DIGITS {
-        return bad_line(out);
+    let mut cells = [0u64; limits::MAX_CELLS];
+    match compiler::compile(s, rows, statics, &mut cells) {
+        Compiled::Refused(f) => {
+            let no = verdicts::refusal(f);
+            After {
+                trace: awaiting(Awaited::Nothing),
+                end: refused_line(no.number, no.place, out, at),
+            }
+        }
+        Compiled::Program(c, n) => After {
+            trace: ready(rows, c, n),
+            end: text::word_line(out, at, b"ok ", c.statements as u64, n as u64),
+        },
     }
-    let hex = digits::hex_bytes(line, column);
+}
+
+// The sheet's line.
+fn first_line(
+    trace: Trace,
+    rows: &mut [u64],
+    statics: &mut [u64],
+    line: &[u8],
+    out: &mut [u8],
+    at: usize,
+) -> After
+    requires { ⌜ Columns (now rows) (now statics) × (trace .awaited ≡ Awaited.Sheet) ⌝ }
+    ensures { λ r. ⌜ Does (stepOf (now (line .entry))) trace at r (now (rows .entry)) (now (rows .exit)) (now (statics .entry)) (now (statics .exit))
+        (now (out .entry)) (now (out .exit)) ⌝ }
+{
+    if line.len() > SHEET_DIGITS {
+        return bad_line(out, at);
+    }
+    let mut bytes = [0u8; SHEET_ROOM];
+    let hex = texts::hex_bytes(line, &mut bytes);
     if !hex.good {
-        return bad_line(out);
+        return bad_line(out, at);
     }
     let n = hex.len;
-    let mut words = [0u64; 1024];
-    let listing = krankovel::compile_cells(&column[..n], &mut words);
-    if listing.number > 0 {
-        return refused_line(Trace::Stopped, listing.number, listing.place, out);
-    }
-    After {
-        trace: Trace::Running(Run {
-            length: n,
-            inputs: listing.inputs,
-            outputs: listing.outputs,
-            state: 0,
-            instants: 0,
-        }),
-        len: text::ok_line(out, listing.statements as u64, listing.cells as u64),
-    }
+    open_sheet(&bytes[..n], rows, statics, out, at)
 }
 
 // An instant was accepted.
-fn instant(run: Run, r: Reaction, out: &mut [u8]) -> After
-    requires { ⌜ 64 ≤ length (now out) ⌝ }
-    ensures { λ a. ⌜ Prints (Trace.Running (Steps.movedRun run r)) (Steps.instantOf (Steps.held run []) r) a (now (out .entry)) (now (out .exit)) ⌝ }
+fn instant(trace: Trace, r: Reaction, out: &mut [u8], at: usize) -> After
+    ensures { λ a. ⌜ Moves trace r at a (now (out .entry)) (now (out .exit)) ⌝ }
 {
-    let instants = counted(run.instants);
-    let state = r.state.low_word();
-    let outputs = outputs_in(run.inputs, run.outputs, r.signals.low_word());
+    let instants = counted(trace.instants);
+    let program = trace.program;
+    let outputs = trace.outputs;
+    let state = r.state;
+    let signals = r.signals;
+    let shown = outputs_in(signals, outputs);
+    let end = text::instant_line(out, at, instants, shown, state, rules::at_rest(state));
     After {
-        trace: Trace::Running(Run {
-            length: run.length,
-            inputs: run.inputs,
-            outputs: run.outputs,
+        trace: Trace {
+            awaited: Awaited::Event,
+            program,
+            outputs,
             state,
             instants,
-        }),
-        len: text::instant_line(out, instants, outputs, state, krankovel::rest(r.state)),
-    }
-}
-
-// So many bytes of the column, or all of it.
-fn within(n: usize, column: &[u8]) -> usize
-    ensures { λ r. ⌜ Counts r (now (column .entry)) ⌝ }
-    ensures { λ r. ⌜ take r (now (column .entry)) ≡ take n (now (column .entry)) ⌝ }
-{
-    if n < column.len() { n } else { column.len() }
-}
-
-// An event's line.
-fn event_line(run: Run, column: &[u8], line: &[u8], out: &mut [u8]) -> After
-    requires { ⌜ 64 ≤ length (now out) ⌝ }
-    ensures { λ r. ⌜ Stepped (Steps.running (Steps.held run (now (column .entry)))) (now (line .entry)) r
-        (now (column .entry)) (now (out .entry)) (now (out .exit)) ⌝ }
-{
-    let Value::Is(event) = digits::hex_value(line) else {
-        return bad_line(out);
-    };
-    let n = within(run.length, column);
-    let r = krankovel::react(&column[..n], Bits::of_word(run.state), Bits::of_word(event));
-    if r.number > 0 {
-        return refused_line(Trace::Running(run), r.number, r.place, out);
-    }
-    instant(run, r, out)
-}
-
-// One line's step. The column has room for a sheet's 1,024 bytes, and the buffer for any text.
-pub fn step(trace: Trace, column: &mut [u8], line: &[u8], out: &mut [u8]) -> After
-    requires { ⌜ (1024 ≤ length (now column)) × (64 ≤ length (now out)) ⌝ }
-    ensures { λ r. ⌜ Counts (r .len) (now (out .exit)) ⌝ }
-    ensures { λ r. ⌜ Stepped (Steps.stateOf trace (now (column .entry))) (now (line .entry)) r (now (column .exit)) (now (out .entry)) (now (out .exit)) ⌝ }
-{
-    match trace {
-        Trace::First => first_line(column, line, out),
-        Trace::Running(run) => event_line(run, column, line, out),
-        Trace::Stopped => After {
-            trace: Trace::Stopped,
-            len: 0,
         },
+        end,
+    }
+}
+
+// An event's line: a reaction of the program that was made ready.
+fn event_line(
+    trace: Trace,
+    rows: &[u64],
+    statics: &[u64],
+    line: &[u8],
+    out: &mut [u8],
+    at: usize,
+) -> After
+    requires { ⌜ Prepared (trace .program) (now rows) (now statics) × (trace .awaited ≡ Awaited.Event) ⌝ }
+    ensures { λ r. ⌜ Does (stepOf (now (line .entry))) trace at r (now (rows .entry)) (now (rows .entry)) (now (statics .entry)) (now (statics .entry))
+        (now (out .entry)) (now (out .exit)) ⌝ }
+{
+    let read = texts::set_value(line);
+    if !read.good {
+        return bad_line(out, at);
+    }
+    let program = trace.program;
+    let state = trace.state;
+    let event = read.set;
+    let r = interpreter::react(program, rows, statics, state, event);
+    if r.number > 0 {
+        return After {
+            trace,
+            end: refused_line(r.number, r.place, out, at),
+        };
+    }
+    instant(trace, r, out, at)
+}
+
+// One line's step. The columns have room for the longest sheet.
+pub fn step(
+    trace: Trace,
+    rows: &mut [u64],
+    statics: &mut [u64],
+    line: &[u8],
+    out: &mut [u8],
+    at: usize,
+) -> After
+    requires { ⌜ Columns (now rows) (now statics) × Sound trace (now rows) (now statics) ⌝ }
+    ensures { λ r. ⌜ Does (stepOf (now (line .entry))) trace at r (now (rows .entry)) (now (rows .exit)) (now (statics .entry)) (now (statics .exit))
+        (now (out .entry)) (now (out .exit)) ⌝ }
+{
+    let awaited = trace.awaited;
+    match awaited {
+        Awaited::Sheet => first_line(trace, rows, statics, line, out, at),
+        Awaited::Event => event_line(trace, rows, statics, line, out, at),
+        Awaited::Nothing => After { trace, end: at },
     }
 }

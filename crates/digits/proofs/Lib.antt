@@ -1,2 +1,0 @@
-pub mod Values
-pub mod Pairs

@@ -1,0 +1,10 @@
+pub mod Truth
+pub mod Putting
+pub mod Numerals
+pub mod Values
+pub mod Pairs
+pub mod Reading
+pub mod Cutting
+pub mod Taking
+pub mod Comparing
+pub mod Sets

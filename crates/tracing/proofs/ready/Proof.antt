@@ -1,0 +1,20 @@
+-- Each part is what the functions behind it answer.
+use mathlib.Core.Path.{refl}
+use borrow.Author.Needs.{needs}
+use Rattle.tracing.proofs.ready.Statement.{statement}
+use Rattle.tracing.proofs.ready.Tie as tie
+
+prepare-requires : tie.Need-prepare-requires
+prepare-requires c κs = search needs
+
+outputs-of-requires : tie.Need-outputs-of-requires
+outputs-of-requires c κs = search needs
+
+empty-requires : tie.Need-empty-requires
+empty-requires c κs = search needs
+
+returns : tie.Need-returns
+returns c = record { awaits = refl; prepares = c .before .before .prepare .ensures; outputs = c .before .outputs-of .ensures; fresh = c .empty .ensures; none = refl }
+
+pub ready-spec : {M : Type 1} → statement M
+ready-spec = tie.close (tie.spec prepare-requires outputs-of-requires empty-requires returns)
