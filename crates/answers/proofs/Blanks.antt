@@ -1,11 +1,12 @@
 -- Laws of the words of a question.
-use Prim.Native.Nat.{ℕ, suc, _+_, _≤_, _<_}
+use Prim.Native.Nat.{ℕ, suc, _+_, _-_, _≤_, _<_}
 use mathlib.Core.Path.{_≡_}
 use mathlib.Core.List.{List}
 use native.Mathlib.Numerals.{add-one}
 use borrow.Author.Tests.{eq-eqb, ne-eqb}
-use lib.ListN.{length, drop, getD, drop-of-length-le}
-use lib.Seq.{drop-cons}
+use native.Mathlib.Omega.{arith}
+use lib.ListN.{length, take, drop, getD, length-drop, drop-of-length-le}
+use lib.Seq.{drop-cons, take-all}
 use Rattle.answers.specs.Words.{wordEnd}
 
 -- a blank ends a word, the end of the text does, and no other byte
@@ -21,3 +22,7 @@ module _ (s : List ℕ) (i : ℕ) where
   pub end-text : length s ≤ i → wordEnd (drop i s) ≡ 0
   unfolding wordEnd
   end-text h = rw (drop-of-length-le s h)
+
+-- what is left of a text is as long as it is
+pub rest-is : (s : List ℕ) (n : ℕ) → take (length s - (n + 1)) (drop (n + 1) s) ≡ drop (suc n) s
+rest-is s n = rw (add-one, take-all (length s - suc n) (drop (suc n) s) (rw length-drop (omega arith)))

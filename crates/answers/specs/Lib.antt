@@ -1,1 +1,5 @@
 pub mod Words
+pub mod Questions
+pub mod Texts
+pub mod Answering
+pub mod Code

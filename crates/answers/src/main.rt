@@ -1,58 +1,74 @@
-// Answers questions, a line each, on standard output, a line each. A line that is no question answers `bad line`.
+// Answers questions, a line each, on standard output, a line each. A line that is no question answers `bad line`. `questions::answer_line` has each answer as its
+// contract; reading and writing are the system's.
 mod order;
 mod output;
 mod questions;
 mod words;
 
 use libc::STDIN_FILENO;
-use lines::Window;
+use libc::STDOUT_FILENO;
+use texts::Found;
+use texts::Source;
 
-// The longest question, and one more.
+// The longest question, and one byte more: a line that is cut there is no question all the same.
 const LINE: usize = 16385;
 
-// Whether there may be another line, and what was read beyond this one.
+// The bytes of one read.
+const READ: usize = 1024;
+
+// The longest answer has a file of 8,192 bytes in hex, and numbers.
+const OUT: usize = 16512;
+
+// The bytes at hand after a line, or after a read where one is wanted, and whether to go on.
 struct After {
+    source: Source,
     more: bool,
-    window: Window,
 }
 
-// Reads and answers one line.
-fn turn(chunk: &mut [u8], window: Window) -> After {
-    let mut buffer = [0u8; 16385];
-    let line = lines::read_line(STDIN_FILENO, chunk, window, &mut buffer);
-    let n = line.len;
-    let rest = line.window;
-    if line.last && n == 0 {
-        return After {
+fn print_answer(line: &[u8]) {
+    let mut out = [0u8; OUT];
+    let length = questions::answer_line(line, &mut out);
+    let n = texts::within(length, &out);
+    io::write_all(STDOUT_FILENO, &out[..n]);
+}
+
+// Answers one line, or reads.
+fn turn(s: Source, bytes: &mut [u8], line: &mut [u8]) -> After {
+    let next = texts::next_line(s, bytes, line);
+    let source = next.source;
+    let found = next.found;
+    match found {
+        Found::Line => {
+            let n = next.len;
+            print_answer(&line[..n]);
+            After { source, more: true }
+        }
+        Found::More => After {
+            source: texts::refill(STDIN_FILENO, bytes, source),
+            more: true,
+        },
+        Found::End => After {
+            source,
             more: false,
-            window: rest,
-        };
-    }
-    if n < LINE {
-        questions::answer_line(&buffer[..n]);
-    } else {
-        output::bad_line();
-    }
-    After {
-        more: !line.last,
-        window: rest,
+        },
     }
 }
 
-fn run(chunk: &mut [u8]) {
-    let mut window = Window { at: 0, end: 0 };
+fn run(bytes: &mut [u8], line: &mut [u8]) {
+    let mut source = texts::nothing_read();
     let mut turns = u64::MAX;
     while turns > 0 {
-        let t = turn(chunk, window);
+        let t = turn(source, bytes, line);
         if !t.more {
             return;
         }
-        window = t.window;
+        source = t.source;
         turns -= 1;
     }
 }
 
 fn main() {
-    let mut chunk = io::buffer();
-    run(&mut chunk);
+    let mut bytes = [0u8; READ];
+    let mut line = [0u8; LINE];
+    run(&mut bytes, &mut line);
 }

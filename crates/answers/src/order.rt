@@ -1,13 +1,19 @@
 // order N TABLE. N is a number of 64 bits in decimal. TABLE is the table's cell, the cells at its pins and its truth table in hex, with a colon between two.
 use crate::output;
 use crate::words;
-use digits::Value;
 use krankovel::CellNo;
 use krankovel::Reordered;
 use krankovel::Table;
-use libc::STDOUT_FILENO;
-ghost use Prim.Native.Nat.{_≤_};
+use texts::Value;
+ghost use mathlib.Core.Path.{_≡_};
+ghost use mathlib.Core.List.{List, [], _∷_, map};
+ghost use Prim.Native.Nat.{ℕ, _≤_};
 ghost use lib.ListN.{length};
+ghost use Rattle.number.specs.Counts.{ofCell};
+ghost use Rattle.texts.specs.Puts.{Puts};
+ghost use Rattle.answers.specs.Questions as Questions;
+ghost use Rattle.answers.specs.Texts.{parts, tableText, orderText};
+ghost use Rattle.answers.specs.Answering.{Says};
 
 // Whether a cell's number with a colon behind it was read, and where the text past them begins.
 struct CellRead {
@@ -25,10 +31,10 @@ struct PinsRead {
 
 // 1 to 20 decimal digits, of a number that a word can hold. A larger one is read as the largest, which has 20 digits and one spelling.
 fn order_value(text: &[u8]) -> Value {
-    let Value::Is(n) = digits::decimal_value(text) else {
+    let Value::Is(n) = texts::decimal_value(text) else {
         return Value::Bad;
     };
-    if n == u64::MAX && !check::same(text, b"18446744073709551615") {
+    if n == u64::MAX && !texts::same(text, b"18446744073709551615") {
         return Value::Bad;
     }
     Value::Is(n)
@@ -39,7 +45,7 @@ fn cell_value(text: &[u8]) -> Value {
     if 5 < text.len() {
         return Value::Bad;
     }
-    let Value::Is(n) = digits::decimal_value(text) else {
+    let Value::Is(n) = texts::decimal_value(text) else {
         return Value::Bad;
     };
     if 65535 < n {
@@ -53,7 +59,7 @@ fn truth_value(text: &[u8]) -> Value {
     if 4 < text.len() {
         return Value::Bad;
     }
-    digits::hex_value(text)
+    texts::hex_value(text)
 }
 
 // The first colon from `at` on, or the end.
@@ -113,59 +119,76 @@ fn pins_at(text: &[u8], at: usize) -> PinsRead
     PinsRead { good, cells, next }
 }
 
-fn print_part(n: u16) {
-    io::print_decimal(STDOUT_FILENO, n as u64);
-    io::write_all(STDOUT_FILENO, b":");
+fn put_part(out: &mut [u8], at: usize, n: u16) -> usize
+    ensures { λ r. ⌜ Puts (parts (n ∷ [])) at r (now (out .entry)) (now (out .exit)) ⌝ }
+{
+    let colon = texts::put_decimal(out, at, n as u64);
+    texts::put_byte(out, colon, b':')
 }
 
-fn print_cells(cells: [CellNo; Table::PINS]) {
+// The cells at the pins, a colon behind each.
+fn put_pins(out: &mut [u8], at: usize, pins: [CellNo; Table::PINS]) -> usize
+    ensures { λ r. ⌜ Puts (parts (map ofCell pins)) at r (now (out .entry)) (now (out .exit)) ⌝ }
+{
+    let mut end = at;
     let mut p = 0;
     while p < Table::PINS {
-        let cell = cells[p];
-        print_part(cell.number());
+        let cell = pins[p];
+        end = put_part(out, end, cell.number());
         p += 1;
     }
+    end
+}
+
+fn put_table(out: &mut [u8], at: usize, table: Table) -> usize
+    ensures { λ r. ⌜ Puts (tableText table) at r (now (out .entry)) (now (out .exit)) ⌝ }
+{
+    let first = put_part(out, at, table.cell.number());
+    let pins = table.pins;
+    let truth = put_pins(out, first, pins);
+    texts::put_hex(out, truth, table.truth as u64)
 }
 
 // number place TABLE
-fn print(r: Reordered) {
-    io::print_decimal(STDOUT_FILENO, r.number as u64);
-    io::write_all(STDOUT_FILENO, b" ");
-    io::print_decimal(STDOUT_FILENO, r.place as u64);
-    io::write_all(STDOUT_FILENO, b" ");
+fn reordered(r: Reordered, out: &mut [u8]) -> usize
+    ensures { λ n. ⌜ Puts (orderText r) 0 n (now (out .entry)) (now (out .exit)) ⌝ }
+{
+    let numbers = [r.number as u64, r.place as u64];
+    let first = texts::put_row(out, 0, &numbers);
+    let second = texts::put_byte(out, first, b' ');
     let table = r.table;
-    print_part(table.cell.number());
-    let cells = table.pins;
-    print_cells(cells);
-    io::print_hex(STDOUT_FILENO, table.truth as u64, 1);
-    io::write_all(STDOUT_FILENO, b"\n");
+    let end = put_table(out, second, table);
+    texts::put_byte(out, end, b'\n')
 }
 
-fn answer_table(order: u64, text: &[u8]) {
+fn answer_table(order: u64, text: &[u8], out: &mut [u8]) -> usize
+    ensures { λ r. ⌜ ((asked : List ℕ) → Says (Questions.order asked) r (now (out .entry)) (now (out .exit))) ⌝ }
+{
     let cell = cell_at(text, 0);
     let pins = pins_at(text, cell.next);
     let end = pins.next;
     let Value::Is(truth) = truth_value(&text[end..]) else {
-        output::bad_line();
-        return;
+        return output::bad_line(out);
     };
     if !cell.good || !pins.good {
-        output::bad_line();
-        return;
+        return output::bad_line(out);
     }
     let cells = pins.cells;
-    print(Table::new(cell.cell, cells, (truth % 65536) as u16).reorder(order));
+    reordered(
+        Table::new(cell.cell, cells, (truth % 65536) as u16).reorder(order),
+        out,
+    )
 }
 
-pub fn answer(text: &[u8]) {
+pub fn answer(text: &[u8], out: &mut [u8]) -> usize
+    ensures { λ r. ⌜ Says (Questions.order (now (text .entry))) r (now (out .entry)) (now (out .exit)) ⌝ }
+{
     let end = words::word_end(text);
     if text.len() <= end {
-        output::bad_line();
-        return;
+        return output::bad_line(out);
     }
     let Value::Is(order) = order_value(&text[..end]) else {
-        output::bad_line();
-        return;
+        return output::bad_line(out);
     };
-    answer_table(order, &text[end + 1..]);
+    answer_table(order, &text[end + 1..], out)
 }

@@ -1,100 +1,98 @@
-// What is printed: a line for each answer, one blank between its words.
+// What is printed: a line for each answer, one blank between its words, at the start of a lent buffer; its length is answered.
 use krankovel::Answer;
-use krankovel::Bits;
 use krankovel::Reaction;
 use krankovel::Reading;
-use libc::STDOUT_FILENO;
+ghost use Rattle.texts.specs.Written.{row, badText};
+ghost use Rattle.texts.specs.Puts.{Puts};
+ghost use Rattle.answers.specs.Texts as Texts;
 
-fn text(t: &[u8]) {
-    io::write_all(STDOUT_FILENO, t);
+pub fn bad_line(out: &mut [u8]) -> usize
+    ensures { λ r. ⌜ Puts badText 0 r (now (out .entry)) (now (out .exit)) ⌝ }
+{
+    texts::put_bytes(out, 0, b"bad line\n")
 }
 
-fn number(n: u64) {
-    io::print_decimal(STDOUT_FILENO, n);
-}
-
-fn then_number(n: u64) {
-    text(b" ");
-    number(n);
-}
-
-// The lowest word of a set in hex, without leading zeros.
-fn then_bits(w: Bits) {
-    text(b" ");
-    io::print_hex(STDOUT_FILENO, w.low_word(), 1);
-}
-
-fn end_line() {
-    text(b"\n");
-}
-
-pub fn bad_line() {
-    text(b"bad line\n");
+fn numbers(numbers: &[u64], out: &mut [u8]) -> usize
+    ensures { λ r. ⌜ Puts (Texts.line (now (numbers .entry))) 0 r (now (out .entry)) (now (out .exit)) ⌝ }
+{
+    let end = texts::put_row(out, 0, numbers);
+    texts::put_byte(out, end, b'\n')
 }
 
 // 1 for yes, 0 for no.
-pub fn yes_or_no(b: bool) {
-    number(b as u64);
-    end_line();
+pub fn yes_or_no(b: bool, out: &mut [u8]) -> usize
+    ensures { λ r. ⌜ Puts (Texts.restText b) 0 r (now (out .entry)) (now (out .exit)) ⌝ }
+{
+    if b {
+        return numbers(&[1], out);
+    }
+    numbers(&[0], out)
 }
 
 // number place statements halts signals
-pub fn reading(r: Reading) {
-    number(r.number as u64);
-    then_number(r.place as u64);
-    then_number(r.statements as u64);
-    then_number(r.halts as u64);
-    then_number(r.signals as u64);
-    end_line();
+pub fn reading(r: Reading, out: &mut [u8]) -> usize
+    ensures { λ n. ⌜ Puts (Texts.readingText r) 0 n (now (out .entry)) (now (out .exit)) ⌝ }
+{
+    let all = [
+        r.number as u64,
+        r.place as u64,
+        r.statements as u64,
+        r.halts as u64,
+        r.signals as u64,
+    ];
+    numbers(&all, out)
 }
 
 // number place statements cells
-fn verdict(a: Answer) {
-    number(a.number as u64);
-    then_number(a.place as u64);
-    then_number(a.statements as u64);
-    then_number(a.cells as u64);
+fn verdict(a: Answer, out: &mut [u8]) -> usize
+    ensures { λ r. ⌜ Puts (row (Texts.numbersOf a)) 0 r (now (out .entry)) (now (out .exit)) ⌝ }
+{
+    let all = [
+        a.number as u64,
+        a.place as u64,
+        a.statements as u64,
+        a.cells as u64,
+    ];
+    texts::put_row(out, 0, &all)
 }
 
-pub fn answer(a: Answer) {
-    verdict(a);
-    end_line();
+pub fn answer(a: Answer, out: &mut [u8]) -> usize
+    ensures { λ r. ⌜ Puts (Texts.answerText a) 0 r (now (out .entry)) (now (out .exit)) ⌝ }
+{
+    let end = verdict(a, out);
+    texts::put_byte(out, end, b'\n')
 }
 
-fn print_byte(b: u8) {
-    io::print_hex(STDOUT_FILENO, b as u64, 2);
+pub fn with_file(a: Answer, file: &[u8], out: &mut [u8]) -> usize
+    ensures { λ r. ⌜ Puts (Texts.fileText a (now (file .entry))) 0 r (now (out .entry)) (now (out .exit)) ⌝ }
+{
+    let first = verdict(a, out);
+    let second = texts::put_byte(out, first, b' ');
+    let end = texts::put_hex_bytes(out, second, file);
+    texts::put_byte(out, end, b'\n')
 }
 
-// Each byte as two hex digits.
-fn print_bytes(bytes: &[u8]) {
-    let mut i = 0;
-    while i < bytes.len() {
-        print_byte(bytes[i]);
-        i += 1;
-    }
-}
-
-pub fn answer_with_file(a: Answer, file: &[u8]) {
-    verdict(a);
-    text(b" ");
-    print_bytes(file);
-    end_line();
-}
-
-pub fn answer_without_file(a: Answer) {
-    verdict(a);
-    text(b" -\n");
+pub fn without_file(a: Answer, out: &mut [u8]) -> usize
+    ensures { λ r. ⌜ Puts (Texts.noFileText a) 0 r (now (out .entry)) (now (out .exit)) ⌝ }
+{
+    let end = verdict(a, out);
+    texts::put_bytes(out, end, b" -\n")
 }
 
 // number place statements cells signals state
-pub fn reaction(r: Reaction) {
-    verdict(Answer {
+pub fn reaction(r: Reaction, out: &mut [u8]) -> usize
+    ensures { λ n. ⌜ Puts (Texts.reactionText r) 0 n (now (out .entry)) (now (out .exit)) ⌝ }
+{
+    let a = Answer {
         number: r.number,
         place: r.place,
         statements: r.statements,
         cells: r.cells,
-    });
-    then_bits(r.signals);
-    then_bits(r.state);
-    end_line();
+    };
+    let first = verdict(a, out);
+    let second = texts::put_byte(out, first, b' ');
+    let third = texts::put_set(out, second, r.signals);
+    let fourth = texts::put_byte(out, third, b' ');
+    let end = texts::put_set(out, fourth, r.state);
+    texts::put_byte(out, end, b'\n')
 }

@@ -1,8 +1,11 @@
 // Words of a line, and those that are bytes.
-use digits::Hex;
+use texts::Hex;
 ghost use mathlib.Core.Path.{_≡_};
+ghost use lib.ListN.{length};
 ghost use Rattle.io.specs.Counts.{Counts};
 ghost use Rattle.answers.specs.Words.{wordEnd};
+ghost use Rattle.answers.specs.Questions.{room};
+ghost use Rattle.answers.specs.Code.{Decodes};
 
 // Where the first word ends: at the first blank, or at the end.
 pub fn word_end(line: &[u8]) -> usize
@@ -21,9 +24,11 @@ pub fn word_end(line: &[u8]) -> usize
 
 // An even count of hex digits, or `-` for no bytes.
 pub fn hex_bytes(text: &[u8], out: &mut [u8]) -> Hex
+    requires { ⌜ length (now out) ≡ room ⌝ }
     ensures { λ r. ⌜ Counts (r .len) (now (out .exit)) ⌝ }
+    ensures { λ r. ⌜ Decodes (now (text .entry)) r (now (out .exit)) ⌝ }
 {
-    if check::same(text, b"-") {
+    if texts::same(text, b"-") {
         return Hex { good: true, len: 0 };
     }
     if text.len() == 0 {
@@ -32,5 +37,5 @@ pub fn hex_bytes(text: &[u8], out: &mut [u8]) -> Hex
             len: 0,
         };
     }
-    digits::hex_bytes(text, out)
+    texts::hex_bytes(text, out)
 }

@@ -1,8 +1,8 @@
 // Digits that are read: bytes in hex, and numbers in hex and decimal.
-use bits::Bits;
 use crate::Hex;
 use crate::SetRead;
 use crate::Value;
+use bits::Bits;
 ghost use Prim.Native.Nat.{_/_, _≤_, _<_};
 ghost use mathlib.Core.Path.{_≡_};
 ghost use lib.ListN.{length};

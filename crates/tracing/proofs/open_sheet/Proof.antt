@@ -51,7 +51,7 @@ same-length-3 : tie.Need-same-length-3
 same-length-3 c = search needs
 
 returns : tie.Need-returns
-returns c = 
+returns c =
     let was = was-refused (c .before .before .before .before .before .before .before .before .before .before .before .before .before .before .compile .ensures) (c .before .before .before .before .before .before .before .f .given .1) in
     opens-none was (record { awaits = c .before .before .before .before .awaiting .ensures; written = rw (c .before .before .before .before .before .refusal .ensures) at (c .before .before .refused-line .ensures) })
 

@@ -26,7 +26,7 @@ loop-holds : tie.Need-loop-holds Inv-loop μ-loop
 loop-holds c = (refl, refl, refl, refl, refl, sound-first (c .before .awaiting .ensures))
 
 answer-read-requires : tie.Need-answer-read-requires Inv-loop μ-loop
-answer-read-requires c κs = 
+answer-read-requires c κs =
     let start = c .before .before .before .before .before .before .before .before .before .before .before .before .before .before in
     let inv = c .before .before .before .before .before .before .loop .inv in
     (buffers-still (start .pre .0) (inv .1) (inv .2) (inv .3), inv .5, omega (arith, start .pre .1, inv .0, inv .4))

@@ -37,7 +37,7 @@ loop-less : tie.Need-loop-less Inv-loop μ-loop
 loop-less c = fewer (c .before .before .before .before .before .before .before .before .before .before .before .before .before .before .before .before .before .next-line .ensures .1) (c .before .before .before .before .before .before .before .before .before .before .before .before .enum-told .given .1)
 
 loop-again : tie.Need-loop-again Inv-loop μ-loop
-loop-again c = 
+loop-again c =
     let start = c .before .before .before .before .before .before .before .before .before .before .before .before .before .before .before .before .before .before .before .before .before .before .before .before .before in
     let looked = c .before .before .before .before .before .before .before .before .before .before .before .before .before .before .before .before .before .next-line .ensures .1 in
     let turned = c .before .before .before .before .before .before .before .turn in
@@ -63,14 +63,17 @@ same-length-4 : tie.Need-same-length-4 Inv-loop μ-loop
 same-length-4 c = search needs
 
 returns : tie.Need-returns Inv-loop μ-loop
-returns c = 
+returns c =
     let start = c .before .before .before .before .before .before .before .before .before .before .before .before .before .before in
     let rounds = c .before .before .before .before .before .before .before .before .loop .inv in
     let looked = c .before .before .before .before .before .before .next-line .ensures .1 in
-    let answer = c .fed .ensures in
-    ((counted-text rounds looked (omega (arith, start .good)) answer,
-    still-sound rounds looked (omega (arith, start .good)) answer),
-    rounds-end rounds looked (omega (arith, start .good)) answer (inl (c .before .enum-told2 .given .1)))
+    let answer = c .fed .ensures in (
+      (
+        counted-text rounds looked (omega (arith, start .good)) answer,
+        still-sound rounds looked (omega (arith, start .good)) answer,
+      ),
+      rounds-end rounds looked (omega (arith, start .good)) answer (inl (c .before .enum-told2 .given .1)),
+    )
 
 enum-told-3 : tie.Need-enum-told-3 Inv-loop μ-loop
 enum-told-3 c = search needs
@@ -91,14 +94,17 @@ same-length-8 : tie.Need-same-length-8 Inv-loop μ-loop
 same-length-8 c = search needs
 
 returns-2 : tie.Need-returns-2 Inv-loop μ-loop
-returns-2 c = 
+returns-2 c =
     let start = c .before .before .before .before .before .before .before .before .before .before .before .before .before .before in
     let rounds = c .before .before .before .before .before .before .before .before .loop .inv in
     let looked = c .before .before .before .before .before .before .next-line .ensures .1 in
-    let answer = c .fed2 .ensures in
-    ((counted-text rounds looked (omega (arith, start .good)) answer,
-    still-sound rounds looked (omega (arith, start .good)) answer),
-    rounds-end rounds looked (omega (arith, start .good)) answer (inr (c .before .enum-told3 .given .1)))
+    let answer = c .fed2 .ensures in (
+      (
+        counted-text rounds looked (omega (arith, start .good)) answer,
+        still-sound rounds looked (omega (arith, start .good)) answer,
+      ),
+      rounds-end rounds looked (omega (arith, start .good)) answer (inr (c .before .enum-told3 .given .1)),
+    )
 
 pub feed-spec : {M : Type 1} → statement M
 feed-spec =

@@ -24,14 +24,14 @@ slice-aggregate-feed-3 : tie.Need-slice-aggregate-feed-3
 slice-aggregate-feed-3 c = search needs
 
 feed-requires : tie.Need-feed-requires
-feed-requires c κs = 
+feed-requires c κs =
     (record { line-long = search needs; columns = record { rows-long = search needs; statics-long = search needs } }, sound-first (c .before .before .before .before .before .awaiting .ensures))
 
 same-length : tie.Need-same-length
 same-length c = search needs
 
 returns : tie.Need-returns
-returns c = 
+returns c =
     let stands = for-first (c .before .before .before .before .before .before .before .before .before .before .before .awaiting .ensures) in
     all-answered (c .before .before .before .before .before .before .before .before .before .before .all-read .ensures) stands (c .before .before .before .before .before .feed .ensures .1 first [] stands (rw (c .before .before .before .before .before .before .before .before .before .before .all-read .ensures) (nothing-kept _)))
 

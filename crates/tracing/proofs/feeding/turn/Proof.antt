@@ -27,7 +27,7 @@ same-length : tie.Need-same-length
 same-length c = search needs
 
 returns : tie.Need-returns
-returns c = 
+returns c =
     let begun : begins (c .before .before .before .before .before .before .before .before .before .before .before .before .before .before .args .many) (c .before .before .before .before .before .before .before .before .before .before .before .before .before .before .args .line .now) ≡ true = rw (c .before .before .before .before .before .before .before .before .before .if1 .taken) (sym (c .before .before .before .before .before .before .before .same .ensures) ∙ c .before .before .before .before .before .before .if2 .taken) in
     turned-anew begun (c .before .before .before .before .before .awaiting .ensures) (c .before .before .put-bytes .ensures)
 
@@ -44,7 +44,7 @@ same-length-4 : tie.Need-same-length-4
 same-length-4 c = search needs
 
 returns-2 : tie.Need-returns-2
-returns-2 c = 
+returns-2 c =
     let args = c .before .before .before .before .before .before .before .before .before .before .before .before .before .before .before .args in
     let other : begins (args .many) (args .line .now) ≡ false =
     ⊎-elim (λ w. rw (w .0 .taken) (sym (w .2 .ensures) ∙ w .3 .left)) (λ w. rw (w .left)) (c .before .before .before .before .before .before .before .before .before .before .if1 .came) in

@@ -1,0 +1,41 @@
+-- As much of the answer as the buffer has.
+use borrow.Author.Needs.{needs}
+use Rattle.answers.proofs.print_answer.Statement.{statement}
+use Rattle.answers.proofs.print_answer.Tie as tie
+
+slice-aggregate-answer-line : tie.Need-slice-aggregate-answer-line
+slice-aggregate-answer-line c = search needs
+
+answer-line-requires : tie.Need-answer-line-requires
+answer-line-requires c κs = search needs
+
+slice-aggregate-within : tie.Need-slice-aggregate-within
+slice-aggregate-within c = search needs
+
+within-requires : tie.Need-within-requires
+within-requires c κs = search needs
+
+array-share-prefix-out : tie.Need-array-share-prefix-out
+array-share-prefix-out c = search needs
+
+slice-aggregate-write-all : tie.Need-slice-aggregate-write-all
+slice-aggregate-write-all c = search needs
+
+write-all-requires : tie.Need-write-all-requires
+write-all-requires c κs = search needs
+
+returns : tie.Need-returns
+returns c = search needs
+
+pub print-answer-spec : {M : Type 1} → statement M
+print-answer-spec =
+    tie.close
+    (tie.spec
+    slice-aggregate-answer-line
+    answer-line-requires
+    slice-aggregate-within
+    within-requires
+    array-share-prefix-out
+    slice-aggregate-write-all
+    write-all-requires
+    returns)

@@ -1,0 +1,75 @@
+-- By the question's word.
+use mathlib.Core.Path.{sym, _∙_}
+use Rattle.answers.proofs.Saying.{said-bad}
+use Rattle.answers.specs.Questions.{aboutMore}
+use borrow.Author.Needs.{needs}
+use Rattle.answers.proofs.questions.answer_more.Statement.{statement}
+use Rattle.answers.proofs.questions.answer_more.Tie as tie
+
+slice-aggregate-same : tie.Need-slice-aggregate-same
+slice-aggregate-same c = search needs
+
+same-requires : tie.Need-same-requires
+same-requires c κs = search needs
+
+answer-fits-requires : tie.Need-answer-fits-requires
+answer-fits-requires c κs = search needs
+
+same-length : tie.Need-same-length
+same-length c = search needs
+
+returns : tie.Need-returns
+unfolding aboutMore
+returns c =
+    let one = sym (c .before .before .before .before .before .same .ensures) ∙ c .before .before .before .before .if1 .taken in
+    rw one (c .before .before .answer-fits .ensures)
+
+slice-aggregate-same-2 : tie.Need-slice-aggregate-same-2
+slice-aggregate-same-2 c = search needs
+
+same-requires-2 : tie.Need-same-requires-2
+same-requires-2 c κs = search needs
+
+answer-write-requires : tie.Need-answer-write-requires
+answer-write-requires c κs = search needs
+
+same-length-2 : tie.Need-same-length-2
+same-length-2 c = search needs
+
+returns-2 : tie.Need-returns-2
+unfolding aboutMore
+returns-2 c =
+    let one = sym (c .before .before .before .before .before .before .before .before .same .ensures) ∙ c .before .before .before .before .before .before .before .if1 .left in
+    let two = sym (c .before .before .before .before .before .same2 .ensures) ∙ c .before .before .before .before .if2 .taken in
+    rw (one, two) (c .before .before .answer-write .ensures)
+
+bad-line-requires : tie.Need-bad-line-requires
+bad-line-requires c κs = search needs
+
+same-length-3 : tie.Need-same-length-3
+same-length-3 c = search needs
+
+returns-3 : tie.Need-returns-3
+unfolding aboutMore
+returns-3 c =
+    let one = sym (c .before .before .before .before .before .before .before .before .same .ensures) ∙ c .before .before .before .before .before .before .before .if1 .left in
+    let two = sym (c .before .before .before .before .before .same2 .ensures) ∙ c .before .before .before .before .if2 .left in
+    rw (one, two) (said-bad (c .before .before .bad-line .ensures))
+
+pub answer-more-spec : {M : Type 1} → statement M
+answer-more-spec =
+    tie.close
+    (tie.spec
+    slice-aggregate-same
+    same-requires
+    answer-fits-requires
+    same-length
+    returns
+    slice-aggregate-same-2
+    same-requires-2
+    answer-write-requires
+    same-length-2
+    returns-2
+    bad-line-requires
+    same-length-3
+    returns-3)

@@ -1,0 +1,74 @@
+-- By the question's word.
+use mathlib.Core.Path.{sym, _∙_}
+use Rattle.answers.specs.Questions.{asked}
+use borrow.Author.Needs.{needs}
+use Rattle.answers.proofs.questions.answer_question.Statement.{statement}
+use Rattle.answers.proofs.questions.answer_question.Tie as tie
+
+slice-aggregate-same : tie.Need-slice-aggregate-same
+slice-aggregate-same c = search needs
+
+same-requires : tie.Need-same-requires
+same-requires c κs = search needs
+
+answer-rest-requires : tie.Need-answer-rest-requires
+answer-rest-requires c κs = search needs
+
+same-length : tie.Need-same-length
+same-length c = search needs
+
+returns : tie.Need-returns
+unfolding asked
+returns c =
+    let one = sym (c .before .before .before .before .before .same .ensures) ∙ c .before .before .before .before .if1 .taken in
+    rw one (c .before .before .answer-rest .ensures)
+
+slice-aggregate-same-2 : tie.Need-slice-aggregate-same-2
+slice-aggregate-same-2 c = search needs
+
+same-requires-2 : tie.Need-same-requires-2
+same-requires-2 c κs = search needs
+
+answer-requires : tie.Need-answer-requires
+answer-requires c κs = search needs
+
+same-length-2 : tie.Need-same-length-2
+same-length-2 c = search needs
+
+returns-2 : tie.Need-returns-2
+unfolding asked
+returns-2 c =
+    let one = sym (c .before .before .before .before .before .before .before .before .same .ensures) ∙ c .before .before .before .before .before .before .before .if1 .left in
+    let two = sym (c .before .before .before .before .before .same2 .ensures) ∙ c .before .before .before .before .if2 .taken in
+    rw (one, two) (c .before .before .answer .ensures)
+
+answer-about-requires : tie.Need-answer-about-requires
+answer-about-requires c κs = search needs
+
+same-length-3 : tie.Need-same-length-3
+same-length-3 c = search needs
+
+returns-3 : tie.Need-returns-3
+unfolding asked
+returns-3 c =
+    let one = sym (c .before .before .before .before .before .before .before .before .same .ensures) ∙ c .before .before .before .before .before .before .before .if1 .left in
+    let two = sym (c .before .before .before .before .before .same2 .ensures) ∙ c .before .before .before .before .if2 .left in
+    rw (one, two) (c .before .before .answer-about .ensures)
+
+pub answer-question-spec : {M : Type 1} → statement M
+answer-question-spec =
+    tie.close
+    (tie.spec
+    slice-aggregate-same
+    same-requires
+    answer-rest-requires
+    same-length
+    returns
+    slice-aggregate-same-2
+    same-requires-2
+    answer-requires
+    same-length-2
+    returns-2
+    answer-about-requires
+    same-length-3
+    returns-3)
