@@ -52,9 +52,11 @@ module _ {bytes : List ℕ} {w : Sheet} (ok : Accepted bytes w) where
 
     past : I < ofSignal s → Dec (ofSignal s < 1 + I + O) → outputsOf w ((react E S t) .emits) s ≡ (isOutput I O s && present)
     past l (yes m) =
-        rw (past-inputs l, lt-ltb I (ofSignal s) l, lt-ltb (ofSignal s) (1 + I + O) m, le-leb (ofSignal s) (I + O) (omega arith)) (swapped e true)
+        rw (past-inputs l, lt-ltb I (ofSignal s) l, lt-ltb (ofSignal s) (1 + I + O) m, le-leb (ofSignal s) (I + O) (omega arith))
+        (swapped e true)
     past l (no m) =
-        rw (past-inputs l, lt-ltb I (ofSignal s) l, le-ltb (ofSignal s) (1 + I + O) (omega arith), lt-leb (ofSignal s) (I + O) (omega arith)) (swapped e false)
+        let beyond = le-ltb (ofSignal s) (1 + I + O) (omega arith) in
+        rw (past-inputs l, lt-ltb I (ofSignal s) l, beyond, lt-leb (ofSignal s) (I + O) (omega arith)) (swapped e false)
 
     emitted-outputs : outputsOf w ((react E S t) .emits) s ≡ (isOutput I O s && present)
     emitted-outputs = go (decLt I (ofSignal s))
@@ -82,4 +84,5 @@ module _ {bytes : List ℕ} {w : Sheet} (ok : Accepted bytes w) where
       let later : Chain (bodyIn (nextState o) t) (map signalsIn es) (map signalsIn os) =
       subst (λ (S′ : State). Chain (bodyIn S′ t) (map signalsIn es) (map signalsIn os)) next
       (chained (and-right (eventOk I e) (each (eventOk I) es) own) fit-next rest) in
-      subst (λ (X : Signals). Chain (bodyIn S t) (map signalsIn (e ∷ es)) (X ∷ map signalsIn os)) outputs (goes {m = moveOn w o} (f .sole-with-halt) later)
+      subst (λ (X : Signals). Chain (bodyIn S t) (map signalsIn (e ∷ es)) (X ∷ map signalsIn os)) outputs
+      (goes {m = moveOn w o} (f .sole-with-halt) later)

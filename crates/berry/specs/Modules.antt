@@ -104,11 +104,12 @@ moveOn w o =
 abbrev pub bodyIn : State → Stmt → Stmt
 bodyIn S t = recovered (haltsetOf S t) (body t)
 
--- 3.1: "The reaction O1, O2, .. to an input sequence I1, I2, .. is then defined inductively by chaining elementary reactions": here each is the only transition
--- that is provable. The input events, and the output events.
+-- 3.1: "The reaction O1, O2, .. to an input sequence I1, I2, .. is then defined inductively by chaining elementary reactions": here each
+-- is the only transition that is provable. The input events, and the output events.
 pub data Chain : Stmt → List Signals → List Signals → Type 0 where
   ended : {p : Stmt} → Chain p [] []
-  goes : {p : Stmt} {J : Signals} {m : Move} {Js Os : List Signals} → Sole J p m → Chain (m .derivative) Js Os → Chain p (J ∷ Js) (m .outputs ∷ Os)
+  goes : {p : Stmt} {J : Signals} {m : Move} {Js Os : List Signals} → Sole J p m → Chain (m .derivative) Js Os
+      → Chain p (J ∷ Js) (m .outputs ∷ Os)
 
 -- What is promised of one reaction: the sheet w answers the event J in the state S with the outcome o.
 pub record Faithful (w : Sheet) (S : State) (J : Signals) (o : Outcome) : Type 0 where
