@@ -10,6 +10,7 @@ use borrow.Author.Tests.{ltb-true, leb-true, leb-false, le-leb, lt-leb, eqb-true
 use Rattle.number.specs.Counts.{cellNo, ofCell, ofSignal}
 use Rattle.number.specs.Number.{pick}
 use Rattle.number.specs.declared.CellNo.{CellNo}
+use Rattle.number.proofs.Bools.{and-left, and-right}
 use Rattle.limits.specs.Limits.{maxRegisters}
 use Rattle.cells.specs.declared.Cell.{Cell}
 use Rattle.cells.specs.declared.Cell.the-variants.{Low, High, Input, Gate, Register}
@@ -71,15 +72,7 @@ room-tally (Input s) k few = refl
 room-tally (Gate g x y) k few = rw (ne-eqb (kindOf (Gate g x y)) 6 (λ e. omega (arith, gate-kind-low g)))
 room-tally (Register x) k few = lt-leb maxRegisters k (omega arith)
 
--- two tests that both hold
-pub and-left : (a b : Bool) → (a && b) ≡ true → a ≡ true
-and-left true b e = refl
-and-left false b e = e
-
-pub and-right : (a b : Bool) → (a && b) ≡ true → b ≡ true
-and-right true b e = e
-and-right false b e = let z : _≡_ {A = ℕ} 0 1 = cc in absurd (omega arith)
-
+-- both operands of a gate
 two : (m : ℕ) (y z : CellNo) → (isNet m y && isNet m z) ≡ true → (ofCell y < m) × (ofCell z < m)
 two m y z h = (ltb-true (ofCell y) m (and-left (isNet m y) (isNet m z) h), ltb-true (ofCell z) m (and-right (isNet m y) (isNet m z) h))
 

@@ -25,7 +25,7 @@ use Rattle.builder.specs.Netlist.{sheetNetlist, sheetFile}
 use Rattle.compiler.specs.Check.{Accepted, accepted as sheet-accepted}
 use Rattle.interpreter.proofs.Interpreting.{accepted-proper}
 use Rattle.files.specs.declared.Judgement.the-variants.{Right}
-use Rattle.files.specs.Judge.{judgeCount, judgeKind}
+use Rattle.files.specs.Judge.{judgeCount, wordKinds, judgeKind}
 use Rattle.files.specs.Read.{netlist}
 use Rattle.number.proofs.Bools.{and-left, and-right}
 use Rattle.files.proofs.Judging.{right-count, right-kind}
@@ -47,7 +47,7 @@ words-right I m x k (c ∷ cs) h fit bits =
     let kind = and-left (kindFits I x (kindOf c)) (operandsFit m x c) here in
     let operands = and-right (kindFits I x (kindOf c)) (operandsFit m x c) here in
     let after : tally c k + registers cs ≤ maxRegisters = omega (arith, tally-sum c k (registers cs)) in
-    let right : judgeKind I x k (word c % 8) ≡ Right =
+    let right : judgeKind wordKinds I x k (word c % 8) ≡ Right =
     rw (word-kind c) (right-kind (record { low = kind-low c; room = room-tally c k (omega arith); fits = kind })) in
     let this : judgeWord I m x k (word c) ≡ Right = word-right I m x k (word c) right (rw back operands) (ap word back) in
     rw (this, back)
