@@ -17,7 +17,12 @@ same-length : tie.Need-same-length
 same-length c = search needs
 
 returns : tie.Need-returns
-returns c = event-bad (c .before .before .before .before .before .before .before .before .before .before .before .pre .1) _ (c .before .before .before .before .before .before .set-value .ensures) (not-true _ (c .before .before .before .before .if1 .taken)) (c .before .before .bad-line .ensures)
+returns c =
+    let at-bad-line = c .before .before in
+    let at-if1 = at-bad-line .before .before in
+    let at-set-value = at-if1 .before .before in
+    let start = at-set-value .before .before .before .before .before in
+    event-bad (start .pre .1) _ (at-set-value .set-value .ensures) (not-true _ (at-if1 .if1 .taken)) (at-bad-line .bad-line .ensures)
 
 react-requires : tie.Need-react-requires
 react-requires c κs = search needs
@@ -29,7 +34,14 @@ same-length-2 : tie.Need-same-length-2
 same-length-2 c = search needs
 
 returns-2 : tie.Need-returns-2
-returns-2 c = event-no (c .before .before .before .before .before .before .before .before .before .before .before .before .before .before .before .before .before .pre .1) _ (c .before .before .before .before .before .before .before .before .before .before .before .before .set-value .ensures) (not-false _ (c .before .before .before .before .before .before .before .before .before .before .if1 .left)) (c .before .before .before .before .before .before .react .ensures) (c .before .before .before .before .if2 .taken) refl (c .before .before .refused-line .ensures)
+returns-2 c =
+    let at-refused-line = c .before .before in
+    let at-if2 = at-refused-line .before .before in
+    let at-react = at-if2 .before .before in
+    let at-if1 = at-react .before .before .before .before in
+    let at-set-value = at-if1 .before .before in
+    let start = at-set-value .before .before .before .before .before in
+    event-no (start .pre .1) _ (at-set-value .set-value .ensures) (not-false _ (at-if1 .if1 .left)) (at-react .react .ensures) (at-if2 .if2 .taken) refl (at-refused-line .refused-line .ensures)
 
 instant-requires : tie.Need-instant-requires
 instant-requires c κs = search needs
@@ -38,7 +50,14 @@ same-length-3 : tie.Need-same-length-3
 same-length-3 c = search needs
 
 returns-3 : tie.Need-returns-3
-returns-3 c = event-instant (c .before .before .before .before .before .before .before .before .before .before .before .before .before .before .before .before .before .pre .1) _ (c .before .before .before .before .before .before .before .before .before .before .before .before .set-value .ensures) (not-false _ (c .before .before .before .before .before .before .before .before .before .before .if1 .left)) (c .before .before .before .before .before .before .react .ensures) (omega (arith, c .before .before .before .before .if2 .left)) (c .before .before .instant .ensures)
+returns-3 c =
+    let at-instant = c .before .before in
+    let at-if2 = at-instant .before .before in
+    let at-react = at-if2 .before .before in
+    let at-if1 = at-react .before .before .before .before in
+    let at-set-value = at-if1 .before .before in
+    let start = at-set-value .before .before .before .before .before in
+    event-instant (start .pre .1) _ (at-set-value .set-value .ensures) (not-false _ (at-if1 .if1 .left)) (at-react .react .ensures) (omega (arith, at-if2 .if2 .left)) (at-instant .instant .ensures)
 
 pub event-line-spec : {M : Type 1} → statement M
 event-line-spec =

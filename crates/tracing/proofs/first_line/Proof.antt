@@ -13,7 +13,10 @@ same-length : tie.Need-same-length
 same-length c = search needs
 
 returns : tie.Need-returns
-returns c = first-long (c .before .before .before .before .before .before .before .before .before .pre .1) _ (omega arith) (c .before .before .bad-line .ensures)
+returns c =
+    let at-bad-line = c .before .before in
+    let start = at-bad-line .before .before .before .before .before .before .before in
+    first-long (start .pre .1) _ (omega arith) (at-bad-line .bad-line .ensures)
 
 slice-aggregate-hex-bytes : tie.Need-slice-aggregate-hex-bytes
 slice-aggregate-hex-bytes c = search needs
@@ -29,8 +32,13 @@ same-length-2 c = search needs
 
 returns-2 : tie.Need-returns-2
 returns-2 c =
-    let bad = not-true _ (c .before .before .before .before .if2 .taken) in
-    first-bad (c .before .before .before .before .before .before .before .before .before .before .before .before .before .before .pre .1) _ (c .before .before .before .before .before .before .before .before .before .if1 .left) (search needs) (c .before .before .before .before .before .before .before .hex-bytes .ensures .1) bad (c .before .before .bad-line2 .ensures)
+    let at-bad-line2 = c .before .before in
+    let at-if2 = at-bad-line2 .before .before in
+    let at-hex-bytes = at-if2 .before .before .before in
+    let at-if1 = at-hex-bytes .before .before in
+    let start = at-if1 .before .before .before .before .before in
+    let bad = not-true _ (at-if2 .if2 .taken) in
+    first-bad (start .pre .1) _ (at-if1 .if1 .left) (search needs) (at-hex-bytes .hex-bytes .ensures .1) bad (at-bad-line2 .bad-line2 .ensures)
 
 array-share-prefix-bytes : tie.Need-array-share-prefix-bytes
 array-share-prefix-bytes c = search needs
@@ -52,8 +60,13 @@ same-length-5 c = search needs
 
 returns-3 : tie.Need-returns-3
 returns-3 c =
-    let good = not-false _ (c .before .before .before .before .before .before .before .before .before .before .before .if2 .left) in
-    first-opened (c .before .before .before .before .before .before .before .before .before .before .before .before .before .before .before .before .before .before .before .before .before .pre .1) _ (c .before .before .before .before .before .before .before .before .before .before .before .before .before .before .before .before .if1 .left) (search needs) (c .before .before .before .before .before .before .before .before .before .before .before .before .before .before .hex-bytes .ensures .1) good (c .before .before .before .before .before .before .open-sheet .ensures)
+    let at-open-sheet = c .before .before .before .before .before .before in
+    let at-if2 = at-open-sheet .before .before .before .before .before in
+    let at-hex-bytes = at-if2 .before .before .before in
+    let at-if1 = at-hex-bytes .before .before in
+    let start = at-if1 .before .before .before .before .before in
+    let good = not-false _ (at-if2 .if2 .left) in
+    first-opened (start .pre .1) _ (at-if1 .if1 .left) (search needs) (at-hex-bytes .hex-bytes .ensures .1) good (at-open-sheet .open-sheet .ensures)
 
 pub first-line-spec : {M : Type 1} → statement M
 first-line-spec =

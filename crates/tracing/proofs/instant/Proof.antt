@@ -20,9 +20,13 @@ same-length c = search needs
 
 returns : tie.Need-returns
 returns c =
+    let at-instant-line = c .before .before in
+    let at-at-rest = at-instant-line .before in
+    let at-outputs-in = at-at-rest .before .before in
+    let at-counted = at-outputs-in .before .before .before .before .before in
     record {
-      next = rw (c .before .before .before .before .before .before .before .before .before .before .counted .ensures);
-      written = λ I O outs. rw (← c .before .before .before .before .before .outputs-in .ensures I O outs, ← c .before .before .before .before .before .before .before .before .before .before .counted .ensures, ← c .before .before .before .at-rest .ensures) (c .before .before .instant-line .ensures);
+      next = rw (at-counted .counted .ensures);
+      written = λ I O outs. rw (← at-outputs-in .outputs-in .ensures I O outs, ← at-counted .counted .ensures, ← at-at-rest .at-rest .ensures) (at-instant-line .instant-line .ensures);
     }
 
 pub instant-spec : {M : Type 1} → statement M

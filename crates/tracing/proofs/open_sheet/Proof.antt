@@ -27,7 +27,10 @@ enum-known-c : tie.Need-enum-known-c
 enum-known-c c = search needs
 
 ready-requires : tie.Need-ready-requires
-ready-requires c κs = compiled-run (was-compiled (c .before .before .before .before .before .before .before .before .before .compile .ensures) (c .before .before .c .given .1))
+ready-requires c κs =
+    let at-c = c .before .before in
+    let at-compile = at-c .before .before .before .before .before .before .before in
+    compiled-run (was-compiled (at-compile .compile .ensures) (at-c .c .given .1))
 
 slice-aggregate-word-line : tie.Need-slice-aggregate-word-line
 slice-aggregate-word-line c = search needs
@@ -52,8 +55,13 @@ same-length-3 c = search needs
 
 returns : tie.Need-returns
 returns c =
-    let was = was-refused (c .before .before .before .before .before .before .before .before .before .before .before .before .before .before .compile .ensures) (c .before .before .before .before .before .before .before .f .given .1) in
-    opens-none was (record { awaits = c .before .before .before .before .awaiting .ensures; written = rw (c .before .before .before .before .before .refusal .ensures) at (c .before .before .refused-line .ensures) })
+    let at-refused-line = c .before .before in
+    let at-awaiting = at-refused-line .before .before in
+    let at-refusal = at-awaiting .before in
+    let at-f = at-refusal .before .before in
+    let at-compile = at-f .before .before .before .before .before .before .before in
+    let was = was-refused (at-compile .compile .ensures) (at-f .f .given .1) in
+    opens-none was (record { awaits = at-awaiting .awaiting .ensures; written = rw (at-refusal .refusal .ensures) at (at-refused-line .refused-line .ensures) })
 
 same-length-4 : tie.Need-same-length-4
 same-length-4 c = search needs
@@ -65,7 +73,12 @@ same-length-6 : tie.Need-same-length-6
 same-length-6 c = search needs
 
 returns-2 : tie.Need-returns-2
-returns-2 c = opens-sheet (was-compiled (c .before .before .before .before .before .before .before .before .before .before .before .before .before .before .before .before .compile .ensures) (c .before .before .before .before .before .before .before .before .before .c .given .1)) (c .before .before .before .before .before .before .ready .ensures) (c .before .before .word-line .ensures)
+returns-2 c =
+    let at-word-line = c .before .before in
+    let at-ready = at-word-line .before .before .before .before in
+    let at-c = at-ready .before .before .before in
+    let at-compile = at-c .before .before .before .before .before .before .before in
+    opens-sheet (was-compiled (at-compile .compile .ensures) (at-c .c .given .1)) (at-ready .ready .ensures) (at-word-line .word-line .ensures)
 
 pub open-sheet-spec : {M : Type 1} → statement M
 open-sheet-spec =

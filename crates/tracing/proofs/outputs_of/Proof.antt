@@ -42,7 +42,9 @@ loop-less : tie.Need-loop-less Inv-loop μ-loop
 loop-less c = search needs
 
 loop-again : tie.Need-loop-again Inv-loop μ-loop
-loop-again c = (search needs, search needs, search needs, one-added (c .before .before .before .loop .inv .1) (c .before .before .before .loop .inv .3) (c .add .ensures))
+loop-again c =
+    let at-loop = c .before .before .before in
+    (search needs, search needs, search needs, one-added (at-loop .loop .inv .1) (at-loop .loop .inv .3) (c .add .ensures))
 
 returns-2 : tie.Need-returns-2 Inv-loop μ-loop
 returns-2 c = all-added (omega (arith, c .before .loop .inv .0)) (omega (arith, c .before .loop .inv .0)) (c .before .loop .inv .3)

@@ -14,7 +14,10 @@ enum-told-2 : tie.Need-enum-told-2
 enum-told-2 c = search needs
 
 event-line-requires : tie.Need-event-line-requires
-event-line-requires c κs = (sound-ready (c .before .before .before .before .before .before .before .before .before .pre .1) (c .before .before .before .enum-told2 .given .1), c .before .before .before .enum-told2 .given .1)
+event-line-requires c κs =
+    let at-enum-told2 = c .before .before .before in
+    let start = at-enum-told2 .before .before .before .before .before .before in
+    (sound-ready (start .pre .1) (at-enum-told2 .enum-told2 .given .1), at-enum-told2 .enum-told2 .given .1)
 
 enum-told-3 : tie.Need-enum-told-3
 enum-told-3 c = search needs

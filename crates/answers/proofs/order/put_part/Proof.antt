@@ -16,7 +16,10 @@ same-length c = search needs
 
 returns : tie.Need-returns
 unfolding parts
-returns c = puts-more (search needs) (c .before .before .before .before .before .before .put-decimal .ensures) (c .before .before .put-byte .ensures)
+returns c =
+    let at-put-byte = c .before .before in
+    let at-put-decimal = at-put-byte .before .before .before .before in
+    puts-more (search needs) (at-put-decimal .put-decimal .ensures) (at-put-byte .put-byte .ensures)
 
 pub put-part-spec : {M : Type 1} → statement M
 put-part-spec = tie.close (tie.spec put-decimal-requires put-byte-requires same-length returns)

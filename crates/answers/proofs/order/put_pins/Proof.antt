@@ -41,16 +41,23 @@ loop-less c = search needs
 
 loop-again : tie.Need-loop-again Inv-loop μ-loop
 loop-again c =
-    let pins = c .before .before .before .before .before .before .before .before .before .args .t3 in
+    let at-put-part = c .before .before in
+    let at-number = at-put-part .before in
+    let at-loop = at-number .before .before .before .before in
+    let start = at-loop .before .before in
+    let pins = start .args .t3 in
     let long = length-map pins ofCell in
-    let this = List·getD-map ofCell pins (c .before .before .before .before .before .before .before .loop .p) (cellNo 0) in
-    pieces-next parts parts-join (map ofCell pins) _ _ (search needs) (c .before .before .before .before .before .before .before .loop .inv) (omega arith) (rw (this, ← c .before .before .before .number .ensures) (c .before .before .put-part .ensures))
+    let this = List·getD-map ofCell pins (at-loop .loop .p) (cellNo 0) in
+    pieces-next parts parts-join (map ofCell pins) _ _ (search needs) (at-loop .loop .inv) (omega arith) (rw (this, ← at-number .number .ensures) (at-put-part .put-part .ensures))
 
 same-length : tie.Need-same-length Inv-loop μ-loop
 same-length c = omega (arith, c .before .loop .inv .long)
 
 returns : tie.Need-returns Inv-loop μ-loop
-returns c = pieces-done parts parts-join _ _ _ (c .before .loop .inv) (omega (arith, length-map (c .before .before .before .args .t3) ofCell))
+returns c =
+    let at-loop = c .before in
+    let start = at-loop .before .before in
+    pieces-done parts parts-join _ _ _ (at-loop .loop .inv) (omega (arith, length-map (start .args .t3) ofCell))
 
 pub put-pins-spec : {M : Type 1} → statement M
 put-pins-spec =

@@ -26,7 +26,11 @@ same-length c = search needs
 returns : tie.Need-returns
 unfolding tableText
 returns c =
-    rw (c .before .before .before .before .before .before .before .before .before .before .before .before .before .number .ensures) at (puts-more (search needs) (c .before .before .before .before .before .before .before .before .before .before .before .before .put-part .ensures) (puts-more (search needs) (c .before .before .before .before .before .before .before .put-pins .ensures) (c .before .before .put-hex .ensures)))
+    let at-put-hex = c .before .before in
+    let at-put-pins = at-put-hex .before .before .before .before .before in
+    let at-put-part = at-put-pins .before .before .before .before .before in
+    let at-number = at-put-part .before in
+    rw (at-number .number .ensures) at (puts-more (search needs) (at-put-part .put-part .ensures) (puts-more (search needs) (at-put-pins .put-pins .ensures) (at-put-hex .put-hex .ensures)))
 
 pub put-table-spec : {M : Type 1} → statement M
 put-table-spec =

@@ -16,7 +16,10 @@ same-length c = search needs
 
 returns : tie.Need-returns
 unfolding line
-returns c = puts-more (search needs) (c .before .before .before .before .before .before .verdict .ensures) (c .before .before .put-byte .ensures)
+returns c =
+    let at-put-byte = c .before .before in
+    let at-verdict = at-put-byte .before .before .before .before in
+    puts-more (search needs) (at-verdict .verdict .ensures) (at-put-byte .put-byte .ensures)
 
 pub answer-spec : {M : Type 1} → statement M
 answer-spec = tie.close (tie.spec verdict-requires put-byte-requires same-length returns)

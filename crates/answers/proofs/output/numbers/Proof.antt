@@ -16,7 +16,10 @@ same-length c = search needs
 
 returns : tie.Need-returns
 unfolding line
-returns c = puts-more (search needs) (c .before .before .before .before .before .before .put-row .ensures) (c .before .before .put-byte .ensures)
+returns c =
+    let at-put-byte = c .before .before in
+    let at-put-row = at-put-byte .before .before .before .before in
+    puts-more (search needs) (at-put-row .put-row .ensures) (at-put-byte .put-byte .ensures)
 
 pub numbers-spec : {M : Type 1} → statement M
 numbers-spec = tie.close (tie.spec put-row-requires put-byte-requires same-length returns)

@@ -19,7 +19,10 @@ same-length c = search needs
 
 returns : tie.Need-returns
 unfolding noFileText
-returns c = puts-more (search needs) (c .before .before .before .before .before .before .before .verdict .ensures) (c .before .before .put-bytes .ensures)
+returns c =
+    let at-put-bytes = c .before .before in
+    let at-verdict = at-put-bytes .before .before .before .before .before in
+    puts-more (search needs) (at-verdict .verdict .ensures) (at-put-bytes .put-bytes .ensures)
 
 pub without-file-spec : {M : Type 1} → statement M
 without-file-spec =

@@ -30,7 +30,12 @@ same-length c = search needs
 
 returns : tie.Need-returns
 unfolding ofBytes withBytes
-returns c = rw (← c .before .before .before .before .before .before .before .before .before .before .word-end .ensures .1, c .before .before .before .before .before .before .before .hex-bytes .ensures .1 .bad (not-true _ (c .before .before .before .before .if1 .taken))) (said-bad (c .before .before .bad-line .ensures))
+returns c =
+    let at-bad-line = c .before .before in
+    let at-if1 = at-bad-line .before .before in
+    let at-hex-bytes = at-if1 .before .before .before in
+    let at-word-end = at-hex-bytes .before .before .before in
+    rw (← at-word-end .word-end .ensures .1, at-hex-bytes .hex-bytes .ensures .1 .bad (not-true _ (at-if1 .if1 .taken))) (said-bad (at-bad-line .bad-line .ensures))
 
 array-share-prefix-bytes : tie.Need-array-share-prefix-bytes
 array-share-prefix-bytes c = search needs
@@ -46,9 +51,15 @@ same-length-2 c = search needs
 
 returns-2 : tie.Need-returns-2
 returns-2 c =
-    let args = c .before .before .before .before .before .before .before .before .before .before .before .before .before .before .before .before .args in
-    let these = about-bytes (args .text .now) (c .before .before .before .before .before .before .before .before .before .before .before .before .word-end .result) (c .before .before .before .before .before .before .before .before .before .before .before .before .word-end .ensures .1) (args .word .now) _ (c .before .before .before .before .before .before .before .before .before .hex-bytes .ensures .1 .good (not-false _ (c .before .before .before .before .before .before .if1 .left))) in
-    rw (these, with-one (args .text .now) (c .before .before .before .before .before .before .before .before .before .before .before .before .word-end .result) (c .before .before .before .before .before .before .before .before .before .before .before .before .word-end .ensures .1) (args .word .now) _ (c .before .before .before .before .before .if2 .taken)) (c .before .before .answer-bytes .ensures)
+    let at-answer-bytes = c .before .before in
+    let at-if2 = at-answer-bytes .before .before .before in
+    let at-if1 = at-if2 .before in
+    let at-hex-bytes = at-if1 .before .before .before in
+    let at-word-end = at-hex-bytes .before .before .before in
+    let start = at-word-end .before .before .before .before in
+    let args = start .args in
+    let these = about-bytes (args .text .now) (at-word-end .word-end .result) (at-word-end .word-end .ensures .1) (args .word .now) _ (at-hex-bytes .hex-bytes .ensures .1 .good (not-false _ (at-if1 .if1 .left))) in
+    rw (these, with-one (args .text .now) (at-word-end .word-end .result) (at-word-end .word-end .ensures .1) (args .word .now) _ (at-if2 .if2 .taken)) (at-answer-bytes .answer-bytes .ensures)
 
 array-share-prefix-bytes-2 : tie.Need-array-share-prefix-bytes-2
 array-share-prefix-bytes-2 c = search needs
@@ -76,9 +87,15 @@ same-length-3 c = search needs
 
 returns-3 : tie.Need-returns-3
 returns-3 c =
-    let args = c .before .before .before .before .before .before .before .before .before .before .before .before .before .before .before .before .before .args in
-    let these = about-bytes (args .text .now) (c .before .before .before .before .before .before .before .before .before .before .before .before .before .word-end .result) (c .before .before .before .before .before .before .before .before .before .before .before .before .before .word-end .ensures .1) (args .word .now) _ (c .before .before .before .before .before .before .before .before .before .before .hex-bytes .ensures .1 .good (not-false _ (c .before .before .before .before .before .before .before .if1 .left))) in
-    rw (these, with-more (args .text .now) (c .before .before .before .before .before .before .before .before .before .before .before .before .before .word-end .result) (c .before .before .before .before .before .before .before .before .before .before .before .before .before .word-end .ensures .1) (args .word .now) _ (c .before .before .before .before .before .before .if2 .left)) (c .before .before .answer-behind .ensures)
+    let at-answer-behind = c .before .before in
+    let at-if2 = at-answer-behind .before .before .before .before in
+    let at-if1 = at-if2 .before in
+    let at-hex-bytes = at-if1 .before .before .before in
+    let at-word-end = at-hex-bytes .before .before .before in
+    let start = at-word-end .before .before .before .before in
+    let args = start .args in
+    let these = about-bytes (args .text .now) (at-word-end .word-end .result) (at-word-end .word-end .ensures .1) (args .word .now) _ (at-hex-bytes .hex-bytes .ensures .1 .good (not-false _ (at-if1 .if1 .left))) in
+    rw (these, with-more (args .text .now) (at-word-end .word-end .result) (at-word-end .word-end .ensures .1) (args .word .now) _ (at-if2 .if2 .left)) (at-answer-behind .answer-behind .ensures)
 
 pub answer-about-spec : {M : Type 1} → statement M
 answer-about-spec =

@@ -24,8 +24,12 @@ same-length c = search needs
 returns : tie.Need-returns
 unfolding of behindBytes
 returns c =
-    let one : oneWord (c .before .before .before .before .before .before .before .before .before .before .args .text .now) ≡ true = rw (← c .before .before .before .before .before .word-end .ensures .1) (le-leb _ _ (c .before .before .before .before .if1 .taken)) in
-    rw one (c .before .before .answer-more .ensures)
+    let at-answer-more = c .before .before in
+    let at-if1 = at-answer-more .before .before in
+    let at-word-end = at-if1 .before in
+    let start = at-word-end .before .before .before .before .before in
+    let one : oneWord (start .args .text .now) ≡ true = rw (← at-word-end .word-end .ensures .1) (le-leb _ _ (at-if1 .if1 .taken)) in
+    rw one (at-answer-more .answer-more .ensures)
 
 slice-aggregate-set-value : tie.Need-slice-aggregate-set-value
 slice-aggregate-set-value c = search needs
@@ -42,9 +46,15 @@ same-length-2 c = search needs
 returns-2 : tie.Need-returns-2
 unfolding of behindBytes
 returns-2 c =
-    let more : oneWord (c .before .before .before .before .before .before .before .before .before .before .before .before .before .before .args .text .now) ≡ false = rw (← c .before .before .before .before .before .before .before .before .before .word-end .ensures .1) (lt-leb _ _ (c .before .before .before .before .before .before .before .before .if1 .left)) in
-    let state = was-no-set (c .before .before .before .before .before .before .set-value .ensures) (not-true _ (c .before .before .before .before .if2 .taken)) in
-    rw (more, ← c .before .before .before .before .before .before .before .before .before .word-end .ensures .1, state) (said-bad (c .before .before .bad-line .ensures))
+    let at-bad-line = c .before .before in
+    let at-if2 = at-bad-line .before .before in
+    let at-set-value = at-if2 .before .before in
+    let at-if1 = at-set-value .before .before in
+    let at-word-end = at-if1 .before in
+    let start = at-word-end .before .before .before .before .before in
+    let more : oneWord (start .args .text .now) ≡ false = rw (← at-word-end .word-end .ensures .1) (lt-leb _ _ (at-if1 .if1 .left)) in
+    let state = was-no-set (at-set-value .set-value .ensures) (not-true _ (at-if2 .if2 .taken)) in
+    rw (more, ← at-word-end .word-end .ensures .1, state) (said-bad (at-bad-line .bad-line .ensures))
 
 add-set-value : tie.Need-add-set-value
 add-set-value c = search needs
@@ -70,10 +80,18 @@ same-length-3 c = search needs
 returns-3 : tie.Need-returns-3
 unfolding of
 returns-3 c =
-    let args = c .before .before .before .before .before .before .before .before .before .before .before .before .before .before .before .before .before .before .args in
-    let two = behind-two (args .text .now) (c .before .before .before .before .before .before .before .before .before .before .before .before .before .word-end .result) (c .before .before .before .before .before .before .before .before .before .before .before .before .before .word-end .ensures .1) (args .word .now) (args .bytes .now) (c .before .before .before .before .before .before .before .before .before .before .before .before .if1 .left)
-    (was-set (c .before .before .before .before .before .before .before .before .before .before .set-value .ensures) (not-false _ (c .before .before .before .before .before .before .before .before .if2 .left))) (was-no-set (c .before .before .before .before .before .before .set-value2 .ensures) (not-true _ (c .before .before .before .before .if3 .taken))) in
-    rw two (said-bad (c .before .before .bad-line2 .ensures))
+    let at-bad-line2 = c .before .before in
+    let at-if3 = at-bad-line2 .before .before in
+    let at-set-value2 = at-if3 .before .before in
+    let at-if2 = at-set-value2 .before .before in
+    let at-set-value = at-if2 .before .before in
+    let at-if1 = at-set-value .before .before in
+    let at-word-end = at-if1 .before in
+    let start = at-word-end .before .before .before .before .before in
+    let args = start .args in
+    let two = behind-two (args .text .now) (at-word-end .word-end .result) (at-word-end .word-end .ensures .1) (args .word .now) (args .bytes .now) (at-if1 .if1 .left)
+    (was-set (at-set-value .set-value .ensures) (not-false _ (at-if2 .if2 .left))) (was-no-set (at-set-value2 .set-value2 .ensures) (not-true _ (at-if3 .if3 .taken))) in
+    rw two (said-bad (at-bad-line2 .bad-line2 .ensures))
 
 answer-reaction-requires : tie.Need-answer-reaction-requires
 answer-reaction-requires c κs = search needs
@@ -84,10 +102,18 @@ same-length-4 c = search needs
 returns-4 : tie.Need-returns-4
 unfolding of
 returns-4 c =
-    let args = c .before .before .before .before .before .before .before .before .before .before .before .before .before .before .before .before .before .before .args in
-    let two = behind-two (args .text .now) (c .before .before .before .before .before .before .before .before .before .before .before .before .before .word-end .result) (c .before .before .before .before .before .before .before .before .before .before .before .before .before .word-end .ensures .1) (args .word .now) (args .bytes .now) (c .before .before .before .before .before .before .before .before .before .before .before .before .if1 .left)
-    (was-set (c .before .before .before .before .before .before .before .before .before .before .set-value .ensures) (not-false _ (c .before .before .before .before .before .before .before .before .if2 .left))) (was-set (c .before .before .before .before .before .before .set-value2 .ensures) (not-false _ (c .before .before .before .before .if3 .left))) in
-    rw two (c .before .before .answer-reaction .ensures)
+    let at-answer-reaction = c .before .before in
+    let at-if3 = at-answer-reaction .before .before in
+    let at-set-value2 = at-if3 .before .before in
+    let at-if2 = at-set-value2 .before .before in
+    let at-set-value = at-if2 .before .before in
+    let at-if1 = at-set-value .before .before in
+    let at-word-end = at-if1 .before in
+    let start = at-word-end .before .before .before .before .before in
+    let args = start .args in
+    let two = behind-two (args .text .now) (at-word-end .word-end .result) (at-word-end .word-end .ensures .1) (args .word .now) (args .bytes .now) (at-if1 .if1 .left)
+    (was-set (at-set-value .set-value .ensures) (not-false _ (at-if2 .if2 .left))) (was-set (at-set-value2 .set-value2 .ensures) (not-false _ (at-if3 .if3 .left))) in
+    rw two (at-answer-reaction .answer-reaction .ensures)
 
 pub answer-behind-spec : {M : Type 1} → statement M
 answer-behind-spec =

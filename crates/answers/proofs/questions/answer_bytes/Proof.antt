@@ -25,8 +25,12 @@ same-length c = search needs
 returns : tie.Need-returns
 unfolding aboutBytes
 returns c =
-    let one = sym (c .before .before .before .before .before .before .same .ensures) ∙ c .before .before .before .before .before .if1 .taken in
-    rw one (said is-read (rw (c .before .before .before .before .read .ensures) at (c .before .before .reading .ensures)))
+    let at-reading = c .before .before in
+    let at-read = at-reading .before .before in
+    let at-if1 = at-read .before in
+    let at-same = at-if1 .before in
+    let one = sym (at-same .same .ensures) ∙ at-if1 .if1 .taken in
+    rw one (said is-read (rw (at-read .read .ensures) at (at-reading .reading .ensures)))
 
 slice-aggregate-same-2 : tie.Need-slice-aggregate-same-2
 slice-aggregate-same-2 c = search needs
@@ -46,9 +50,15 @@ same-length-2 c = search needs
 returns-2 : tie.Need-returns-2
 unfolding aboutBytes
 returns-2 c =
-    let one = sym (c .before .before .before .before .before .before .before .before .before .same .ensures) ∙ c .before .before .before .before .before .before .before .before .if1 .left in
-    let two = sym (c .before .before .before .before .before .before .same2 .ensures) ∙ c .before .before .before .before .before .if2 .taken in
-    rw (one, two) (said (is-checked (c .before .before .before .before .check .ensures)) (c .before .before .answer .ensures))
+    let at-answer = c .before .before in
+    let at-check = at-answer .before .before in
+    let at-if2 = at-check .before in
+    let at-same2 = at-if2 .before in
+    let at-if1 = at-same2 .before .before in
+    let at-same = at-if1 .before in
+    let one = sym (at-same .same .ensures) ∙ at-if1 .if1 .left in
+    let two = sym (at-same2 .same2 .ensures) ∙ at-if2 .if2 .taken in
+    rw (one, two) (said (is-checked (at-check .check .ensures)) (at-answer .answer .ensures))
 
 slice-aggregate-same-3 : tie.Need-slice-aggregate-same-3
 slice-aggregate-same-3 c = search needs
@@ -68,10 +78,18 @@ same-length-3 c = search needs
 returns-3 : tie.Need-returns-3
 unfolding aboutBytes
 returns-3 c =
-    let one = sym (c .before .before .before .before .before .before .before .before .before .before .before .before .same .ensures) ∙ c .before .before .before .before .before .before .before .before .before .before .before .if1 .left in
-    let two = sym (c .before .before .before .before .before .before .before .before .before .same2 .ensures) ∙ c .before .before .before .before .before .before .before .before .if2 .left in
-    let three = sym (c .before .before .before .before .before .before .same3 .ensures) ∙ c .before .before .before .before .before .if3 .taken in
-    rw (one, two, three) (said (is-file (c .before .before .before .before .check-file .ensures)) (c .before .before .answer2 .ensures))
+    let at-answer2 = c .before .before in
+    let at-check-file = at-answer2 .before .before in
+    let at-if3 = at-check-file .before in
+    let at-same3 = at-if3 .before in
+    let at-if2 = at-same3 .before .before in
+    let at-same2 = at-if2 .before in
+    let at-if1 = at-same2 .before .before in
+    let at-same = at-if1 .before in
+    let one = sym (at-same .same .ensures) ∙ at-if1 .if1 .left in
+    let two = sym (at-same2 .same2 .ensures) ∙ at-if2 .if2 .left in
+    let three = sym (at-same3 .same3 .ensures) ∙ at-if3 .if3 .taken in
+    rw (one, two, three) (said (is-file (at-check-file .check-file .ensures)) (at-answer2 .answer2 .ensures))
 
 bad-line-requires : tie.Need-bad-line-requires
 bad-line-requires c κs = search needs
@@ -82,10 +100,17 @@ same-length-4 c = search needs
 returns-4 : tie.Need-returns-4
 unfolding aboutBytes
 returns-4 c =
-    let one = sym (c .before .before .before .before .before .before .before .before .before .before .before .same .ensures) ∙ c .before .before .before .before .before .before .before .before .before .before .if1 .left in
-    let two = sym (c .before .before .before .before .before .before .before .before .same2 .ensures) ∙ c .before .before .before .before .before .before .before .if2 .left in
-    let three = sym (c .before .before .before .before .before .same3 .ensures) ∙ c .before .before .before .before .if3 .left in
-    rw (one, two, three) (said-bad (c .before .before .bad-line .ensures))
+    let at-bad-line = c .before .before in
+    let at-if3 = at-bad-line .before .before in
+    let at-same3 = at-if3 .before in
+    let at-if2 = at-same3 .before .before in
+    let at-same2 = at-if2 .before in
+    let at-if1 = at-same2 .before .before in
+    let at-same = at-if1 .before in
+    let one = sym (at-same .same .ensures) ∙ at-if1 .if1 .left in
+    let two = sym (at-same2 .same2 .ensures) ∙ at-if2 .if2 .left in
+    let three = sym (at-same3 .same3 .ensures) ∙ at-if3 .if3 .left in
+    rw (one, two, three) (said-bad (at-bad-line .bad-line .ensures))
 
 pub answer-bytes-spec : {M : Type 1} → statement M
 answer-bytes-spec =

@@ -31,8 +31,13 @@ same-length-2 c = search needs
 returns-2 : tie.Need-returns-2
 unfolding question
 returns-2 c =
-    let one : oneWord (c .before .before .before .before .before .before .before .before .before .args .line .now) ≡ true = rw (← c .before .before .before .before .before .word-end .ensures .1) (le-leb _ _ (c .before .before .before .before .if2 .taken)) in
-    rw (le-leb _ _ (c .before .before .before .before .before .before .if1 .left), one) (said-bad (c .before .before .bad-line2 .ensures))
+    let at-bad-line2 = c .before .before in
+    let at-if2 = at-bad-line2 .before .before in
+    let at-word-end = at-if2 .before in
+    let at-if1 = at-word-end .before in
+    let start = at-if1 .before .before .before in
+    let one : oneWord (start .args .line .now) ≡ true = rw (← at-word-end .word-end .ensures .1) (le-leb _ _ (at-if2 .if2 .taken)) in
+    rw (le-leb _ _ (at-if1 .if1 .left), one) (said-bad (at-bad-line2 .bad-line2 .ensures))
 
 slice-aggregate-answer-question : tie.Need-slice-aggregate-answer-question
 slice-aggregate-answer-question c = search needs
@@ -57,7 +62,12 @@ same-length-3 c = search needs
 
 returns-3 : tie.Need-returns-3
 returns-3 c =
-    rw (question-is (c .before .before .before .before .before .before .before .before .before .before .before .args .line .now) (c .before .before .before .before .before .before .before .word-end .result) (c .before .before .before .before .before .before .before .word-end .ensures .1) (c .before .before .before .before .before .before .before .before .if1 .left) (c .before .before .before .before .before .before .if2 .left)) (c .before .before .answer-question .ensures)
+    let at-answer-question = c .before .before in
+    let at-if2 = at-answer-question .before .before .before .before in
+    let at-word-end = at-if2 .before in
+    let at-if1 = at-word-end .before in
+    let start = at-if1 .before .before .before in
+    rw (question-is (start .args .line .now) (at-word-end .word-end .result) (at-word-end .word-end .ensures .1) (at-if1 .if1 .left) (at-if2 .if2 .left)) (at-answer-question .answer-question .ensures)
 
 pub answer-line-spec : {M : Type 1} → statement M
 answer-line-spec =

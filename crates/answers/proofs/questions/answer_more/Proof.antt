@@ -39,9 +39,14 @@ same-length-2 c = search needs
 returns-2 : tie.Need-returns-2
 unfolding aboutMore
 returns-2 c =
-    let one = sym (c .before .before .before .before .before .before .before .before .same .ensures) ∙ c .before .before .before .before .before .before .before .if1 .left in
-    let two = sym (c .before .before .before .before .before .same2 .ensures) ∙ c .before .before .before .before .if2 .taken in
-    rw (one, two) (c .before .before .answer-write .ensures)
+    let at-answer-write = c .before .before in
+    let at-if2 = at-answer-write .before .before in
+    let at-same2 = at-if2 .before in
+    let at-if1 = at-same2 .before .before in
+    let at-same = at-if1 .before in
+    let one = sym (at-same .same .ensures) ∙ at-if1 .if1 .left in
+    let two = sym (at-same2 .same2 .ensures) ∙ at-if2 .if2 .taken in
+    rw (one, two) (at-answer-write .answer-write .ensures)
 
 bad-line-requires : tie.Need-bad-line-requires
 bad-line-requires c κs = search needs
@@ -52,9 +57,14 @@ same-length-3 c = search needs
 returns-3 : tie.Need-returns-3
 unfolding aboutMore
 returns-3 c =
-    let one = sym (c .before .before .before .before .before .before .before .before .same .ensures) ∙ c .before .before .before .before .before .before .before .if1 .left in
-    let two = sym (c .before .before .before .before .before .same2 .ensures) ∙ c .before .before .before .before .if2 .left in
-    rw (one, two) (said-bad (c .before .before .bad-line .ensures))
+    let at-bad-line = c .before .before in
+    let at-if2 = at-bad-line .before .before in
+    let at-same2 = at-if2 .before in
+    let at-if1 = at-same2 .before .before in
+    let at-same = at-if1 .before in
+    let one = sym (at-same .same .ensures) ∙ at-if1 .if1 .left in
+    let two = sym (at-same2 .same2 .ensures) ∙ at-if2 .if2 .left in
+    rw (one, two) (said-bad (at-bad-line .bad-line .ensures))
 
 pub answer-more-spec : {M : Type 1} → statement M
 answer-more-spec =

@@ -38,9 +38,14 @@ same-length-2 c = search needs
 returns-2 : tie.Need-returns-2
 unfolding asked
 returns-2 c =
-    let one = sym (c .before .before .before .before .before .before .before .before .same .ensures) ∙ c .before .before .before .before .before .before .before .if1 .left in
-    let two = sym (c .before .before .before .before .before .same2 .ensures) ∙ c .before .before .before .before .if2 .taken in
-    rw (one, two) (c .before .before .answer .ensures)
+    let at-answer = c .before .before in
+    let at-if2 = at-answer .before .before in
+    let at-same2 = at-if2 .before in
+    let at-if1 = at-same2 .before .before in
+    let at-same = at-if1 .before in
+    let one = sym (at-same .same .ensures) ∙ at-if1 .if1 .left in
+    let two = sym (at-same2 .same2 .ensures) ∙ at-if2 .if2 .taken in
+    rw (one, two) (at-answer .answer .ensures)
 
 answer-about-requires : tie.Need-answer-about-requires
 answer-about-requires c κs = search needs
@@ -51,9 +56,14 @@ same-length-3 c = search needs
 returns-3 : tie.Need-returns-3
 unfolding asked
 returns-3 c =
-    let one = sym (c .before .before .before .before .before .before .before .before .same .ensures) ∙ c .before .before .before .before .before .before .before .if1 .left in
-    let two = sym (c .before .before .before .before .before .same2 .ensures) ∙ c .before .before .before .before .if2 .left in
-    rw (one, two) (c .before .before .answer-about .ensures)
+    let at-answer-about = c .before .before in
+    let at-if2 = at-answer-about .before .before in
+    let at-same2 = at-if2 .before in
+    let at-if1 = at-same2 .before .before in
+    let at-same = at-if1 .before in
+    let one = sym (at-same .same .ensures) ∙ at-if1 .if1 .left in
+    let two = sym (at-same2 .same2 .ensures) ∙ at-if2 .if2 .left in
+    rw (one, two) (at-answer-about .answer-about .ensures)
 
 pub answer-question-spec : {M : Type 1} → statement M
 answer-question-spec =

@@ -25,8 +25,12 @@ same-length c = search needs
 returns : tie.Need-returns
 unfolding aboutReaction
 returns c =
-    let one = sym (c .before .before .before .before .before .before .same .ensures) ∙ c .before .before .before .before .before .if1 .taken in
-    rw one (said (reacts (c .before .before .before .before .react .ensures)) (c .before .before .reaction .ensures))
+    let at-reaction = c .before .before in
+    let at-react = at-reaction .before .before in
+    let at-if1 = at-react .before in
+    let at-same = at-if1 .before in
+    let one = sym (at-same .same .ensures) ∙ at-if1 .if1 .taken in
+    rw one (said (reacts (at-react .react .ensures)) (at-reaction .reaction .ensures))
 
 slice-aggregate-same-2 : tie.Need-slice-aggregate-same-2
 slice-aggregate-same-2 c = search needs
@@ -46,9 +50,15 @@ same-length-2 c = search needs
 returns-2 : tie.Need-returns-2
 unfolding aboutReaction
 returns-2 c =
-    let one = sym (c .before .before .before .before .before .before .before .before .before .same .ensures) ∙ c .before .before .before .before .before .before .before .before .if1 .left in
-    let two = sym (c .before .before .before .before .before .before .same2 .ensures) ∙ c .before .before .before .before .before .if2 .taken in
-    rw (one, two) (said (file-reacts (c .before .before .before .before .react-file .ensures)) (c .before .before .reaction2 .ensures))
+    let at-reaction2 = c .before .before in
+    let at-react-file = at-reaction2 .before .before in
+    let at-if2 = at-react-file .before in
+    let at-same2 = at-if2 .before in
+    let at-if1 = at-same2 .before .before in
+    let at-same = at-if1 .before in
+    let one = sym (at-same .same .ensures) ∙ at-if1 .if1 .left in
+    let two = sym (at-same2 .same2 .ensures) ∙ at-if2 .if2 .taken in
+    rw (one, two) (said (file-reacts (at-react-file .react-file .ensures)) (at-reaction2 .reaction2 .ensures))
 
 bad-line-requires : tie.Need-bad-line-requires
 bad-line-requires c κs = search needs
@@ -59,9 +69,14 @@ same-length-3 c = search needs
 returns-3 : tie.Need-returns-3
 unfolding aboutReaction
 returns-3 c =
-    let one = sym (c .before .before .before .before .before .before .before .before .same .ensures) ∙ c .before .before .before .before .before .before .before .if1 .left in
-    let two = sym (c .before .before .before .before .before .same2 .ensures) ∙ c .before .before .before .before .if2 .left in
-    rw (one, two) (said-bad (c .before .before .bad-line .ensures))
+    let at-bad-line = c .before .before in
+    let at-if2 = at-bad-line .before .before in
+    let at-same2 = at-if2 .before in
+    let at-if1 = at-same2 .before .before in
+    let at-same = at-if1 .before in
+    let one = sym (at-same .same .ensures) ∙ at-if1 .if1 .left in
+    let two = sym (at-same2 .same2 .ensures) ∙ at-if2 .if2 .left in
+    rw (one, two) (said-bad (at-bad-line .bad-line .ensures))
 
 pub answer-reaction-spec : {M : Type 1} → statement M
 answer-reaction-spec =

@@ -19,7 +19,11 @@ same-length c = search needs
 
 returns : tie.Need-returns
 unfolding of
-returns c = rw (was-no-set (c .before .before .before .before .before .before .set-value .ensures) (not-true _ (c .before .before .before .before .if1 .taken))) (said-bad (c .before .before .bad-line .ensures))
+returns c =
+    let at-bad-line = c .before .before in
+    let at-if1 = at-bad-line .before .before in
+    let at-set-value = at-if1 .before .before in
+    rw (was-no-set (at-set-value .set-value .ensures) (not-true _ (at-if1 .if1 .taken))) (said-bad (at-bad-line .bad-line .ensures))
 
 rest-requires : tie.Need-rest-requires
 rest-requires c κs = search needs
@@ -32,7 +36,12 @@ same-length-2 c = search needs
 
 returns-2 : tie.Need-returns-2
 unfolding of
-returns-2 c = rw (was-set (c .before .before .before .before .before .before .before .set-value .ensures) (not-false _ (c .before .before .before .before .before .if1 .left))) (said is-rest (rw (c .before .before .before .before .rest .ensures) at (c .before .before .yes-or-no .ensures)))
+returns-2 c =
+    let at-yes-or-no = c .before .before in
+    let at-rest = at-yes-or-no .before .before in
+    let at-if1 = at-rest .before in
+    let at-set-value = at-if1 .before .before in
+    rw (was-set (at-set-value .set-value .ensures) (not-false _ (at-if1 .if1 .left))) (said is-rest (rw (at-rest .rest .ensures) at (at-yes-or-no .yes-or-no .ensures)))
 
 pub answer-rest-spec : {M : Type 1} → statement M
 answer-rest-spec =

@@ -26,7 +26,11 @@ same-length c = search needs
 
 returns : tie.Need-returns
 unfolding of
-returns c = rw (sym (c .before .before .before .before .before .before .decimal-value .ensures) ∙ c .before .before .before .before .enum-told .given .1) (said-bad (c .before .before .bad-line .ensures))
+returns c =
+    let at-bad-line = c .before .before in
+    let at-enum-told = at-bad-line .before .before in
+    let at-decimal-value = at-enum-told .before .before in
+    rw (sym (at-decimal-value .decimal-value .ensures) ∙ at-enum-told .enum-told .given .1) (said-bad (at-bad-line .bad-line .ensures))
 
 lent-requires : tie.Need-lent-requires
 lent-requires c κs = search needs
@@ -45,7 +49,12 @@ same-length-2 c = search needs
 
 returns-2 : tie.Need-returns-2
 unfolding of
-returns-2 c = rw (sym (c .before .before .before .before .before .before .before .before .before .before .decimal-value .ensures) ∙ c .before .before .before .before .before .before .before .before .n .given .1) (c .before .before .before .write-file .ensures _ (lent-part _ _ (search needs) (c .before .before .before .before .before .before .lent .ensures)))
+returns-2 c =
+    let at-write-file = c .before .before .before in
+    let at-lent = at-write-file .before .before .before in
+    let at-n = at-lent .before .before in
+    let at-decimal-value = at-n .before .before in
+    rw (sym (at-decimal-value .decimal-value .ensures) ∙ at-n .n .given .1) (at-write-file .write-file .ensures _ (lent-part _ _ (search needs) (at-lent .lent .ensures)))
 
 pub answer-write-spec : {M : Type 1} → statement M
 answer-write-spec =

@@ -36,10 +36,16 @@ acceptance-requires : tie.Need-acceptance-requires
 acceptance-requires c κs = search needs
 
 slice-reshare-prefix-with-file : tie.Need-slice-reshare-prefix-with-file
-slice-reshare-prefix-with-file c = let n = file-within (rw (c .before .before .n .given .1) at (c .before .before .before .before .before .before .write-file .ensures)) in search needs
+slice-reshare-prefix-with-file c =
+    let at-n = c .before .before in
+    let at-write-file = at-n .before .before .before .before in
+    let n = file-within (rw (at-n .n .given .1) at (at-write-file .write-file .ensures)) in search needs
 
 slice-aggregate-with-file : tie.Need-slice-aggregate-with-file
-slice-aggregate-with-file c = sym (length-take-le _ _ (file-within (rw (c .before .before .before .n .given .1) at (c .before .before .before .before .before .before .before .write-file .ensures))))
+slice-aggregate-with-file c =
+    let at-n = c .before .before .before in
+    let at-write-file = at-n .before .before .before .before in
+    sym (length-take-le _ _ (file-within (rw (at-n .n .given .1) at (at-write-file .write-file .ensures))))
 
 with-file-requires : tie.Need-with-file-requires
 with-file-requires c κs = search needs
@@ -52,12 +58,16 @@ same-length-2 c = search needs
 
 returns : tie.Need-returns
 returns c =
-    let did = rw (c .before .before .before .before .before .before .f .given .1) at (c .before .before .before .before .before .before .before .before .before .before .write-file .ensures) in
+    let at-without-file = c .before .before in
+    let at-refusal = at-without-file .before .before in
+    let at-f = at-refusal .before .before in
+    let at-write-file = at-f .before .before .before .before in
+    let did = rw (at-f .f .given .1) at (at-write-file .write-file .ensures) in
     record {
-      answer = c .before .before .before .before .refusal .result;
+      answer = at-refusal .refusal .result;
       left = _;
-      filed = filed (c .before .before .before .before .before .before .before .before .before .before .write-file .ensures) (rw (c .before .before .before .before .before .before .f .given .1) (c .before .before .before .before .refusal .ensures));
-      written = rw (too-short (c .before .before .before .before .refusal .result) did) (c .before .before .without-file .ensures);
+      filed = filed (at-write-file .write-file .ensures) (rw (at-f .f .given .1) (at-refusal .refusal .ensures));
+      written = rw (too-short (at-refusal .refusal .result) did) (at-without-file .without-file .ensures);
     }
 
 same-length-3 : tie.Need-same-length-3
@@ -68,12 +78,16 @@ same-length-4 c = search needs
 
 returns-2 : tie.Need-returns-2
 returns-2 c =
-    let did = rw (c .before .before .before .before .before .before .before .n .given .1) at (c .before .before .before .before .before .before .before .before .before .before .before .write-file .ensures) in
+    let at-with-file = c .before .before in
+    let at-acceptance = at-with-file .before .before .before in
+    let at-n = at-acceptance .before .before in
+    let at-write-file = at-n .before .before .before .before in
+    let did = rw (at-n .n .given .1) at (at-write-file .write-file .ensures) in
     record {
-      answer = c .before .before .before .before .before .acceptance .result;
+      answer = at-acceptance .acceptance .result;
       left = _;
-      filed = filed (c .before .before .before .before .before .before .before .before .before .before .before .write-file .ensures) (rw (c .before .before .before .before .before .before .before .n .given .1) (c .before .before .before .before .before .acceptance .ensures));
-      written = rw (has-file did (c .before .before .before .before .before .acceptance .result)) (rw (file-there did) at (c .before .before .with-file .ensures));
+      filed = filed (at-write-file .write-file .ensures) (rw (at-n .n .given .1) (at-acceptance .acceptance .ensures));
+      written = rw (has-file did (at-acceptance .acceptance .result)) (rw (file-there did) at (at-with-file .with-file .ensures));
     }
 
 pub print-file-spec : {M : Type 1} → statement M

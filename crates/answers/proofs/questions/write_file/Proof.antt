@@ -46,7 +46,9 @@ slice-aggregate-print-file c =
 
 print-file-requires : tie.Need-print-file-requires
 print-file-requires c κs =
-    let a = was-compiled (c .before .before .before .before .before .before .before .before .before .compile .ensures) (c .before .before .before .before .c .given .1) in
+    let at-c = c .before .before .before .before in
+    let at-compile = at-c .before .before .before .before .before in
+    let a = was-compiled (at-compile .compile .ensures) (at-c .c .given .1) in
     let long = prefix-long a (search needs) in
     (sheet-well-formed a, omega (arith, n-few a, long))
 
@@ -55,8 +57,13 @@ same-length c = search needs
 
 returns : tie.Need-returns
 returns c =
-    let was = was-refused (c .before .before .before .before .before .before .before .before .before .before .before .compile .ensures) (c .before .before .before .before .before .before .f .given .1) in
-    λ n lends. wrote-none (c .before .before .before .before .before .before .before .before .before .before .before .before .before .before .before .before .before .before .args .lent .now) was lends (rw (c .before .before .before .before .refusal .ensures) at (c .before .before .without-file .ensures))
+    let at-without-file = c .before .before in
+    let at-refusal = at-without-file .before .before in
+    let at-f = at-refusal .before .before in
+    let at-compile = at-f .before .before .before .before .before in
+    let start = at-compile .before .before .before .before .before .before .before in
+    let was = was-refused (at-compile .compile .ensures) (at-f .f .given .1) in
+    λ n lends. wrote-none (start .args .lent .now) was lends (rw (at-refusal .refusal .ensures) at (at-without-file .without-file .ensures))
 
 same-length-2 : tie.Need-same-length-2
 same-length-2 c = search needs
@@ -66,8 +73,12 @@ same-length-3 c = search needs
 
 returns-2 : tie.Need-returns-2
 returns-2 c =
-    let a = was-compiled (c .before .before .before .before .before .before .before .before .before .before .before .before .before .before .compile .ensures) (c .before .before .before .before .before .before .before .before .before .c .given .1) in
-    λ n lends. wrote-file a (search needs) (c .before .before .before .before .before .before .before .before .before .before .before .before .before .before .before .before .before .before .before .before .before .args .lent .now) (c .before .before .before .before .print-file .ensures) lends
+    let at-print-file = c .before .before .before .before in
+    let at-c = at-print-file .before .before .before .before .before in
+    let at-compile = at-c .before .before .before .before .before in
+    let start = at-compile .before .before .before .before .before .before .before in
+    let a = was-compiled (at-compile .compile .ensures) (at-c .c .given .1) in
+    λ n lends. wrote-file a (search needs) (start .args .lent .now) (at-print-file .print-file .ensures) lends
 
 pub write-file-spec : {M : Type 1} → statement M
 write-file-spec =

@@ -19,14 +19,19 @@ same-requires c κs = search needs
 returns : tie.Need-returns
 unfolding bytesIn
 returns c =
-    let is = sym (c .before .same .ensures) ∙ c .if1 .taken in
-    (counts 0 (c .before .before .before .before .before .args .out .now) (omega arith), record { good = λ _. rw is; bad = λ e. true-false e })
+    let at-same = c .before in
+    let start = at-same .before .before .before .before in
+    let is = sym (at-same .same .ensures) ∙ c .if1 .taken in
+    (counts 0 (start .args .out .now) (omega arith), record { good = λ _. rw is; bad = λ e. true-false e })
 
 returns-2 : tie.Need-returns-2
 unfolding bytesIn
 returns-2 c =
-    let is = sym (c .before .before .same .ensures) ∙ c .before .if1 .left in
-    (counts 0 (c .before .before .before .before .before .before .args .out .now) (omega arith), record { good = λ e. true-false (sym e); bad = λ _. rw (is, eq-eqb _ 0 (c .if2 .taken)) })
+    let at-if1 = c .before in
+    let at-same = at-if1 .before in
+    let start = at-same .before .before .before .before in
+    let is = sym (at-same .same .ensures) ∙ at-if1 .if1 .left in
+    (counts 0 (start .args .out .now) (omega arith), record { good = λ e. true-false (sym e); bad = λ _. rw (is, eq-eqb _ 0 (c .if2 .taken)) })
 
 hex-bytes-requires : tie.Need-hex-bytes-requires
 hex-bytes-requires c κs = search needs
@@ -37,11 +42,16 @@ same-length c = search needs
 returns-3 : tie.Need-returns-3
 unfolding bytesIn
 returns-3 c =
-    let is = sym (c .before .before .before .before .before .before .same .ensures) ∙ c .before .before .before .before .before .if1 .left in
-    let some = ne-eqb _ 0 (c .before .before .before .before .if2 .left) in
-    let read = c .before .before .hex-bytes .ensures .1 in (
-      c .before .before .hex-bytes .ensures .0,
-      record { good = λ e. rw (is, some) (rw (c .before .before .before .before .before .before .before .before .before .before .pre) at (were-bytes read e)); bad = λ e. rw (is, some) (rw (c .before .before .before .before .before .before .before .before .before .before .pre) at (were-none read e)) },
+    let at-hex-bytes = c .before .before in
+    let at-if2 = at-hex-bytes .before .before in
+    let at-if1 = at-if2 .before in
+    let at-same = at-if1 .before in
+    let start = at-same .before .before .before .before in
+    let is = sym (at-same .same .ensures) ∙ at-if1 .if1 .left in
+    let some = ne-eqb _ 0 (at-if2 .if2 .left) in
+    let read = at-hex-bytes .hex-bytes .ensures .1 in (
+      at-hex-bytes .hex-bytes .ensures .0,
+      record { good = λ e. rw (is, some) (rw (start .pre) at (were-bytes read e)); bad = λ e. rw (is, some) (rw (start .pre) at (were-none read e)) },
     )
 
 pub hex-bytes-spec : {M : Type 1} → statement M

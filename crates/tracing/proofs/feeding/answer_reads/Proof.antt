@@ -32,19 +32,34 @@ answer-read-requires c κs =
     (buffers-still (start .pre .0) (inv .1) (inv .2) (inv .3), inv .5, omega (arith, start .pre .1, inv .0, inv .4))
 
 same-length : tie.Need-same-length Inv-loop μ-loop
-same-length c = omega (arith, c .before .before .before .before .before .before .before .before .before .before .before .before .before .before .before .before .before .before .before .loop .inv, c .before .before .before .before .before .before .before .before .before .before .before .before .answer-read .kept)
+same-length c =
+    let at-answer-read = c .before .before .before .before .before .before .before .before .before .before .before .before in
+    let at-loop = at-answer-read .before .before .before .before .before .before .before in
+    omega (arith, at-loop .loop .inv, at-answer-read .answer-read .kept)
 
 same-length-2 : tie.Need-same-length-2 Inv-loop μ-loop
-same-length-2 c = omega (arith, c .before .before .before .before .before .before .before .before .before .before .before .before .before .before .before .before .before .before .before .loop .inv, c .before .before .before .before .before .before .before .before .before .before .before .before .answer-read .kept)
+same-length-2 c =
+    let at-answer-read = c .before .before .before .before .before .before .before .before .before .before .before .before in
+    let at-loop = at-answer-read .before .before .before .before .before .before .before in
+    omega (arith, at-loop .loop .inv, at-answer-read .answer-read .kept)
 
 same-length-3 : tie.Need-same-length-3 Inv-loop μ-loop
-same-length-3 c = omega (arith, c .before .before .before .before .before .before .before .before .before .before .before .before .before .before .before .before .before .before .before .loop .inv, c .before .before .before .before .before .before .before .before .before .before .before .before .answer-read .kept)
+same-length-3 c =
+    let at-answer-read = c .before .before .before .before .before .before .before .before .before .before .before .before in
+    let at-loop = at-answer-read .before .before .before .before .before .before .before in
+    omega (arith, at-loop .loop .inv, at-answer-read .answer-read .kept)
 
 same-length-4 : tie.Need-same-length-4 Inv-loop μ-loop
-same-length-4 c = omega (arith, c .before .before .before .before .before .before .before .before .before .before .before .before .before .before .before .before .before .before .before .loop .inv, c .before .before .before .before .before .before .before .before .before .before .before .before .answer-read .kept)
+same-length-4 c =
+    let at-answer-read = c .before .before .before .before .before .before .before .before .before .before .before .before in
+    let at-loop = at-answer-read .before .before .before .before .before .before .before in
+    omega (arith, at-loop .loop .inv, at-answer-read .answer-read .kept)
 
 same-length-5 : tie.Need-same-length-5 Inv-loop μ-loop
-same-length-5 c = omega (arith, c .before .before .before .before .before .before .before .before .before .before .before .before .before .before .before .before .before .before .before .loop .inv, c .before .before .before .before .before .before .before .before .before .before .before .before .answer-read .kept)
+same-length-5 c =
+    let at-answer-read = c .before .before .before .before .before .before .before .before .before .before .before .before in
+    let at-loop = at-answer-read .before .before .before .before .before .before .before in
+    omega (arith, at-loop .loop .inv, at-answer-read .answer-read .kept)
 
 returns : tie.Need-returns Inv-loop μ-loop
 returns c = search needs
@@ -57,9 +72,11 @@ loop-less c = search needs
 
 loop-again : tie.Need-loop-again Inv-loop μ-loop
 loop-again c =
-    let inv = c .before .before .before .before .before .before .before .before .before .before .before .before .before .before .before .before .before .before .before .before .before .loop .inv in
-    let kept = c .before .before .before .before .before .before .before .before .before .before .before .before .before .before .answer-read .kept in
-    (omega (arith, inv, kept), omega (arith, inv, kept), omega (arith, inv, kept), omega (arith, inv, kept), omega (arith, inv, kept), c .before .before .before .before .before .before .before .before .before .before .before .before .before .before .answer-read .ensures .0)
+    let at-answer-read = c .before .before .before .before .before .before .before .before .before .before .before .before .before .before in
+    let at-loop = at-answer-read .before .before .before .before .before .before .before in
+    let inv = at-loop .loop .inv in
+    let kept = at-answer-read .answer-read .kept in
+    (omega (arith, inv, kept), omega (arith, inv, kept), omega (arith, inv, kept), omega (arith, inv, kept), omega (arith, inv, kept), at-answer-read .answer-read .ensures .0)
 
 same-length-6 : tie.Need-same-length-6 Inv-loop μ-loop
 same-length-6 c = search needs

@@ -31,18 +31,29 @@ slice-aggregate-turn : tie.Need-slice-aggregate-turn Inv-loop μ-loop
 slice-aggregate-turn c = search needs
 
 turn-requires : tie.Need-turn-requires Inv-loop μ-loop
-turn-requires c κs = (columns-still (c .before .before .before .before .before .before .before .before .before .before .before .loop .inv) (c .before .before .before .before .before .before .before .before .before .before .before .before .before .before .before .before .before .pre .0 .columns), c .before .before .before .before .before .before .before .before .before .before .before .loop .inv .sound)
+turn-requires c κs =
+    let at-loop = c .before .before .before .before .before .before .before .before .before .before .before in
+    let start = at-loop .before .before .before .before .before .before in
+    (columns-still (at-loop .loop .inv) (start .pre .0 .columns), at-loop .loop .inv .sound)
 
 loop-less : tie.Need-loop-less Inv-loop μ-loop
-loop-less c = fewer (c .before .before .before .before .before .before .before .before .before .before .before .before .before .before .before .before .before .next-line .ensures .1) (c .before .before .before .before .before .before .before .before .before .before .before .before .enum-told .given .1)
+loop-less c =
+    let at-enum-told = c .before .before .before .before .before .before .before .before .before .before .before .before in
+    let at-next-line = at-enum-told .before .before .before .before .before in
+    fewer (at-next-line .next-line .ensures .1) (at-enum-told .enum-told .given .1)
 
 loop-again : tie.Need-loop-again Inv-loop μ-loop
 loop-again c =
-    let start = c .before .before .before .before .before .before .before .before .before .before .before .before .before .before .before .before .before .before .before .before .before .before .before .before .before in
-    let looked = c .before .before .before .before .before .before .before .before .before .before .before .before .before .before .before .before .before .next-line .ensures .1 in
-    let turned = c .before .before .before .before .before .before .before .turn in
-    round (c .before .before .before .before .before .before .before .before .before .before .before .before .before .before .before .before .before .before .before .loop .inv) looked (omega (arith, start .good)) (c .before .before .before .before .before .before .before .before .before .before .before .before .enum-told .given .1) (start .pre .0 .line-long) (omega (arith, start .good))
-    (omega (arith, c .before .before .before .before .before .before .before .before .before .before .before .before .before .before .before .before .before .next-line .kept)) (omega (arith, turned .kept)) (omega (arith, turned .kept)) (omega (arith, turned .kept)) (turned .ensures)
+    let at-turn = c .before .before .before .before .before .before .before in
+    let at-enum-told = at-turn .before .before .before .before .before in
+    let at-next-line = at-enum-told .before .before .before .before .before in
+    let at-loop = at-next-line .before .before in
+    let at-before = at-loop .before .before .before .before .before in
+    let start = at-before .before in
+    let looked = at-next-line .next-line .ensures .1 in
+    let turned = at-turn .turn in
+    round (at-loop .loop .inv) looked (omega (arith, start .good)) (at-enum-told .enum-told .given .1) (start .pre .0 .line-long) (omega (arith, start .good))
+    (omega (arith, at-next-line .next-line .kept)) (omega (arith, turned .kept)) (omega (arith, turned .kept)) (omega (arith, turned .kept)) (turned .ensures)
 
 enum-told-2 : tie.Need-enum-told-2 Inv-loop μ-loop
 enum-told-2 c = search needs

@@ -19,7 +19,8 @@ slice-aggregate-answer-reads-5 : tie.Need-slice-aggregate-answer-reads-5
 slice-aggregate-answer-reads-5 c = search needs
 
 answer-reads-requires : tie.Need-answer-reads-requires
-answer-reads-requires c κs = (record { line-long = search needs; columns = record { rows-long = search needs; statics-long = search needs } }, search needs)
+answer-reads-requires c κs =
+    (record { line-long = search needs; columns = record { rows-long = search needs; statics-long = search needs } }, search needs)
 
 returns : tie.Need-returns
 returns c = search needs

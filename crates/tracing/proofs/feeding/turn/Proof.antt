@@ -28,8 +28,14 @@ same-length c = search needs
 
 returns : tie.Need-returns
 returns c =
-    let begun : begins (c .before .before .before .before .before .before .before .before .before .before .before .before .before .before .args .many) (c .before .before .before .before .before .before .before .before .before .before .before .before .before .before .args .line .now) ≡ true = rw (c .before .before .before .before .before .before .before .before .before .if1 .taken) (sym (c .before .before .before .before .before .before .before .same .ensures) ∙ c .before .before .before .before .before .before .if2 .taken) in
-    turned-anew begun (c .before .before .before .before .before .awaiting .ensures) (c .before .before .put-bytes .ensures)
+    let at-put-bytes = c .before .before in
+    let at-awaiting = at-put-bytes .before .before .before in
+    let at-if2 = at-awaiting .before in
+    let at-same = at-if2 .before in
+    let at-if1 = at-same .before .before in
+    let start = at-if1 .before .before .before .before .before in
+    let begun : begins (start .args .many) (start .args .line .now) ≡ true = rw (at-if1 .if1 .taken) (sym (at-same .same .ensures) ∙ at-if2 .if2 .taken) in
+    turned-anew begun (at-awaiting .awaiting .ensures) (at-put-bytes .put-bytes .ensures)
 
 step-requires : tie.Need-step-requires
 step-requires c κs = search needs
@@ -45,10 +51,13 @@ same-length-4 c = search needs
 
 returns-2 : tie.Need-returns-2
 returns-2 c =
-    let args = c .before .before .before .before .before .before .before .before .before .before .before .before .before .before .before .args in
+    let at-step = c .before .before .before .before .before .before in
+    let at-if1 = at-step .before .before .before .before in
+    let start = at-if1 .before .before .before .before .before in
+    let args = start .args in
     let other : begins (args .many) (args .line .now) ≡ false =
-    ⊎-elim (λ w. rw (w .0 .taken) (sym (w .2 .ensures) ∙ w .3 .left)) (λ w. rw (w .left)) (c .before .before .before .before .before .before .before .before .before .before .if1 .came) in
-    turned-step other (c .before .before .before .before .before .before .step .ensures)
+    ⊎-elim (λ w. rw (w .0 .taken) (sym (w .2 .ensures) ∙ w .3 .left)) (λ w. rw (w .left)) (at-if1 .if1 .came) in
+    turned-step other (at-step .step .ensures)
 
 pub turn-spec : {M : Type 1} → statement M
 turn-spec =

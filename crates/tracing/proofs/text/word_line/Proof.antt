@@ -23,7 +23,8 @@ same-length c = search needs
 returns : tie.Need-returns
 unfolding wordLine
 returns c =
-    let at-put-byte = c .before .before in
+    let at-before = c .before in
+    let at-put-byte = at-before .before in
     let at-put-row = at-put-byte .before .before .before .before in
     let at-put-bytes = at-put-row .before .before .before .before .before in
     puts-more (search needs) (at-put-bytes .put-bytes .ensures) (puts-more (search needs) (at-put-row .put-row .ensures) (at-put-byte .put-byte .ensures))
