@@ -16,7 +16,7 @@ use Rattle.files.specs.Read.{FileOutcome, netlist, faulty as no-netlist, readFi
 use Rattle.netlists.specs.Words.{judgeCells}
 use Rattle.netlists.specs.Check.{NetChecks, accepted as in-order}
 use Rattle.netlists.proofs.Words.{cells-right}
-use Rattle.netlists.proofs.Running.{file-accepted}
+use Rattle.netlists.proofs.Running.{written-accepted}
 use Rattle.compiler.specs.Check.{Checks, refused, cyclic, Accepted}
 use Rattle.compiler.proofs.Exists as sheets
 use Rattle.agreement.proofs.WordRuns.{fresh-fits}
@@ -120,7 +120,7 @@ module _ (I O : ℕ) (words : List ℕ) where
   back (in-order order is ordered) =
       let right = cells-right I O words is in
       let ok : NetChecks (judgeCells I O words) (netlist net) = in-order order is ordered in
-      let file-is : NetChecks (readFile (fileBytes net)) (netlist net) = file-accepted net order (right .sound) ordered in
+      let file-is : NetChecks (readFile (fileBytes net)) (netlist net) = written-accepted net order (right .sound) ordered in
       record {
         file = fileBytes net;
         written = net-written ok;
