@@ -22,6 +22,7 @@ ghost use Rattle.files.specs.Answer.{DidCells, DidFile};
 
 // The highest kind in a file, and in cells as words.
 pub const FILE_KINDS: u32 = 7;
+
 pub const WORD_KINDS: u32 = 6;
 
 // I, O and the count of cells.

@@ -65,21 +65,21 @@ module _ {cells : List Cell} (closed : Closed cells) where
   -- one step, from which the search goes on
   module _ {marks₀ marks order : List ℕ} {top count : ℕ} (u : Under cells marks₀ marks order top count)
       (on : (marks′ order′ : List ℕ) (top′ count′ : ℕ) → Went cells marks marks′ order′ top top′ count′ → HasCycle cells ⊎ Finished marks₀)
-      where
-    abbrev x : CellNo
-    x = waiting order top
+    where
+      abbrev x : CellNo
+      x = waiting order top
 
-    step : 0 < top → Next marks x → HasCycle cells ⊎ Finished marks₀
-    step some (fresh y needs is-new) =
-        let is = closed .gates x y needs in
-        let free = place-free (u .searching) y is is-new in
-        on _ _ _ _ (goes-deeper (u .searching) some (length order - (top + 1)) y is is-new (omega (arith, free)) needs)
-    step some (back y needs is-open) = inl (y, comes-back (u .searching) x some refl y needs is-open)
-    step some (clear done) = on _ _ _ _ (places-top (u .searching) some done)
+      step : 0 < top → Next marks x → HasCycle cells ⊎ Finished marks₀
+      step some (fresh y needs is-new) =
+          let is = closed .gates x y needs in
+          let free = place-free (u .searching) y is is-new in
+          on _ _ _ _ (goes-deeper (u .searching) some (length order - (top + 1)) y is is-new (omega (arith, free)) needs)
+      step some (back y needs is-open) = inl (y, comes-back (u .searching) x some refl y needs is-open)
+      step some (clear done) = on _ _ _ _ (places-top (u .searching) some done)
 
-    turn : Dec (0 < top) → HasCycle cells ⊎ Finished marks₀
-    turn (yes some) = step some (look marks x)
-    turn (no none) = inr (ended u (omega arith))
+      turn : Dec (0 < top) → HasCycle cells ⊎ Finished marks₀
+      turn (yes some) = step some (look marks x)
+      turn (no none) = inr (ended u (omega arith))
 
   -- it ends, since each step leaves less to do
   search : (fuel : ℕ) {marks₀ marks order : List ℕ} {top count : ℕ} → left cells marks top ≤ fuel → Under cells marks₀ marks order top count

@@ -206,7 +206,7 @@ fn instant(trace: Trace, r: Reaction, out: &mut [u8], at: usize) -> After
     let state = r.state;
     let signals = r.signals;
     let shown = outputs_in(signals, outputs);
-    let end = text::instant_line(out, at, instants, shown, state, rules::at_rest(state));
+    let end = text::instant_line(out, at, instants, shown, state, sheet_entries::rest(state));
     After {
         trace: Trace {
             awaited: Awaited::Event,

@@ -9,8 +9,8 @@ counted-requires c κs = search needs
 outputs-in-requires : tie.Need-outputs-in-requires
 outputs-in-requires c κs = search needs
 
-at-rest-requires : tie.Need-at-rest-requires
-at-rest-requires c κs = search needs
+rest-requires : tie.Need-rest-requires
+rest-requires c κs = search needs
 
 instant-line-requires : tie.Need-instant-line-requires
 instant-line-requires c κs = search needs
@@ -21,12 +21,14 @@ same-length c = search needs
 returns : tie.Need-returns
 returns c =
     let at-instant-line = c .before .before in
-    let at-at-rest = at-instant-line .before in
-    let at-outputs-in = at-at-rest .before .before in
+    let at-rest = at-instant-line .before in
+    let at-outputs-in = at-rest .before .before in
     let at-counted = at-outputs-in .before .before .before .before .before in
     record {
       next = rw (at-counted .counted .ensures);
-      written = λ I O outs. rw (← at-outputs-in .outputs-in .ensures I O outs, ← at-counted .counted .ensures, ← at-at-rest .at-rest .ensures) (at-instant-line .instant-line .ensures);
+      written = λ I O outs.
+          rw (← at-outputs-in .outputs-in .ensures I O outs, ← at-counted .counted .ensures, ← at-rest .rest .ensures)
+          (at-instant-line .instant-line .ensures);
     }
 
 pub instant-spec : {M : Type 1} → statement M
@@ -35,7 +37,7 @@ instant-spec =
     (tie.spec
     counted-requires
     outputs-in-requires
-    at-rest-requires
+    rest-requires
     instant-line-requires
     same-length
     returns)
