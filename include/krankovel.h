@@ -217,6 +217,15 @@ krankovel_course krankovel_react_cells_many(uint32_t inputs, uint32_t outputs, c
    14, 20, 16, 22, 9, 11, 15, 21, 17, 23. Refusals: 20. */
 krankovel_reordered krankovel_reorder(krankovel_table table, uint64_t order);
 
+/* ---- covers: six numbers a table, its cell, its four pins and its truth table, as an array of `struct { uint16_t cell, pins[4], truth; }` lies in memory; `length` counts numbers ---- */
+
+/* Checks a cover of the netlist in a file. Refusals: 1 to 4, 8, 12, 16; 19, whose place is the number of the first wrong table from 0 on, or the number of tables where an output
+   or a register's operand lacks one. */
+krankovel_answer krankovel_cover_file(const uint8_t *file, size_t file_length, const uint16_t *cover, size_t length);
+
+/* The same of a netlist as words. Refusals: 3, 4, 12, 16; 19. */
+krankovel_answer krankovel_cover_cells(uint32_t inputs, uint32_t outputs, const uint64_t *words, size_t count, const uint16_t *cover, size_t length);
+
 #ifdef __cplusplus
 }
 #endif

@@ -2,6 +2,8 @@
 pub use bits::Bits;
 pub use compile_entries::compile;
 pub use compile_entries::compile_cells;
+pub use cover_entries::cover_cells;
+pub use cover_entries::cover_file;
 pub use netlist_entries::check_cells;
 pub use netlist_entries::check_file;
 pub use netlist_entries::react_cells;

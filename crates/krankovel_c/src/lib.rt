@@ -20,6 +20,7 @@ ghost use Rattle.netlist_entries.specs.Netlists.{NetChecked, NetReactedMany};
 ghost use Rattle.compile_entries.specs.Compile.{Written, Listed};
 ghost use Rattle.verdicts.specs.Runs.{Once};
 ghost use Rattle.tables.specs.Reordering.{Reorders};
+ghost use Rattle.cover_entries.specs.Covers.{CoverChecked};
 
 #[no_mangle]
 pub extern "C" fn krankovel_read(s: &[u8]) -> Reading
@@ -175,4 +176,23 @@ pub extern "C" fn krankovel_reorder(table: Table, order: u64) -> Reordered
     ensures { λ r. ⌜ Reorders order table r ⌝ }
 {
     table.reorder(order)
+}
+
+#[no_mangle]
+pub extern "C" fn krankovel_cover_file(s: &[u8], cover: &[u16]) -> Answer
+    ensures { λ r. ⌜ CoverChecked (readFile (now (s .entry))) (now (cover .entry)) r ⌝ }
+{
+    krankovel::cover_file(s, cover)
+}
+
+#[no_mangle]
+pub extern "C" fn krankovel_cover_cells(
+    inputs: u32,
+    outputs: u32,
+    words: &[u64],
+    cover: &[u16],
+) -> Answer
+    ensures { λ r. ⌜ CoverChecked (judgeCells inputs outputs (now (words .entry))) (now (cover .entry)) r ⌝ }
+{
+    krankovel::cover_cells(inputs, outputs, words, cover)
 }

@@ -1,0 +1,4 @@
+pub mod Reading
+pub mod Carrying
+pub mod Cuts
+pub mod Tables

@@ -1,0 +1,6 @@
+pub mod Words
+pub mod Pins
+pub mod Depth
+pub mod Ways
+pub mod Visits
+pub mod Setting

@@ -1,0 +1,68 @@
+-- `set_pins` meets its contract: with each turn one pin more is set.
+use Prim.Native.Nat.{_-_, _≤_}
+use mathlib.Core.Path.{_≡_, refl, sym, _∙_, subst}
+use native.Mathlib.Omega.{arith}
+use lib.ListN.{length}
+use Rattle.tables.specs.Answering.{pins}
+use Rattle.cuts.specs.Cutting.{Pinned}
+use Rattle.cuts.proofs.Setting.{pinned-none, pinned-more}
+use borrow.Author.Needs.{needs}
+use Rattle.cuts.proofs.set_pins.Statement.{statement}
+use Rattle.cuts.proofs.set_pins.Tie as tie
+
+abbrev Inv-loop : tie.InvT-loop
+Inv-loop marks₀ values₀ base cut counts₀ p₀ marks values counts p = (p ≤ pins) × Pinned cut base marks values p counts × (length marks ≡ length marks₀) × (length values ≡ length values₀)
+
+abbrev μ-loop : tie.MeasureT-loop
+μ-loop marks₀ values₀ base cut counts₀ p₀ marks values counts p = pins - p
+
+loop-holds : tie.Need-loop-holds Inv-loop μ-loop
+loop-holds c = (omega arith, pinned-none _ _ _ _ (c .before .before .pre .1), refl, refl)
+
+mul-x : tie.Need-mul-x Inv-loop μ-loop
+mul-x c = search needs
+
+array-copy-out-x : tie.Need-array-copy-out-x Inv-loop μ-loop
+array-copy-out-x c = search needs
+
+pin-word-requires : tie.Need-pin-word-requires Inv-loop μ-loop
+pin-word-requires c κs = search needs
+
+set-pin-requires : tie.Need-set-pin-requires Inv-loop μ-loop
+set-pin-requires c κs = (c .before .before .before .before .before .before .before .before .pre .0, omega (arith, c .before .before .before .before .before .before .before .before .pre .2 (c .before .before .before .before .before .loop .p) (c .before .before .before .before .loop-test .taken), c .before .before .before .before .before .loop .inv .2), omega (arith, c .before .before .before .before .before .before .before .before .pre .3 (c .before .before .before .before .before .loop .p) (c .before .before .before .before .loop-test .taken), c .before .before .before .before .before .loop .inv .3))
+
+add-p : tie.Need-add-p Inv-loop μ-loop
+add-p c = search needs
+
+loop-less : tie.Need-loop-less Inv-loop μ-loop
+loop-less c = search needs
+
+loop-again : tie.Need-loop-again Inv-loop μ-loop
+loop-again c = (omega arith, pinned-more (c .before .before .before .before .before .before .before .before .before .before .loop .inv .1) (omega (arith, c .before .before .before .before .before .before .before .before .before .before .before .before .before .pre .2 (c .before .before .before .before .before .before .before .before .before .before .loop .p) (c .before .before .before .before .before .before .before .before .before .loop-test .taken), c .before .before .before .before .before .before .before .before .before .before .loop .inv .2)) (omega (arith, c .before .before .before .before .before .before .before .before .before .before .before .before .before .pre .3 (c .before .before .before .before .before .before .before .before .before .before .loop .p) (c .before .before .before .before .before .before .before .before .before .loop-test .taken), c .before .before .before .before .before .before .before .before .before .before .loop .inv .3)) (c .before .before .before .before .before .pin-word .ensures) (c .before .before .before .before .set-pin .ensures), c .before .before .before .before .set-pin .kept .0 ∙ c .before .before .before .before .before .before .before .before .before .before .loop .inv .2, c .before .before .before .before .set-pin .kept .1 .0 ∙ c .before .before .before .before .before .before .before .before .before .before .loop .inv .3)
+
+same-length : tie.Need-same-length Inv-loop μ-loop
+same-length c = c .before .loop .inv .2
+
+same-length-2 : tie.Need-same-length-2 Inv-loop μ-loop
+same-length-2 c = c .before .loop .inv .3
+
+returns : tie.Need-returns Inv-loop μ-loop
+returns c = (let e : c .before .loop .p ≡ pins = omega arith in rw e at (c .before .loop .inv .1), search needs)
+
+pub set-pins-spec : {M : Type 1} → statement M
+set-pins-spec =
+    tie.close
+    (tie.spec
+    Inv-loop
+    μ-loop
+    loop-holds
+    mul-x
+    array-copy-out-x
+    pin-word-requires
+    set-pin-requires
+    add-p
+    loop-less
+    loop-again
+    same-length
+    same-length-2
+    returns)

@@ -1,0 +1,3 @@
+pub mod Giving
+pub mod Reordering
+pub mod EachGate
