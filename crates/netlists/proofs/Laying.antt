@@ -95,15 +95,20 @@ gate-length g x y =
     let pair = length-append (numberBytes (ofCell x)) (numberBytes (ofCell y)) in
     led (truthTable g) (pairBytes x y) (omega (arith, table-small g)) ∙ ap (λ (k : ℕ). 1 + k) pair
 
--- a kind, and the operands behind it
-pub kind-writes : (c : Cell) {s : List ℕ} {at mid : ℕ} {s₁ : List ℕ} → at + length (cellBytes c) ≤ length s → Wrote s at (writtenKind c) mid s₁
+-- one byte written is a kind, or a truth table
+pub kind-writes : (c : Cell) {s : List ℕ} {at mid : ℕ} {s₁ : List ℕ} → Writes (writtenKind c ∷ []) at mid s s₁
     → Writes (numberBytes (writtenKind c)) at mid s s₁
-kind-writes c fits w = leading-writes (operandBytes c) (omega (arith, written-low c)) fits w
+kind-writes c w = rw (one-byte (writtenKind c) (omega (arith, written-low c))) w
 
--- a truth table, and the operands behind it
-pub table-writes : (g : gate.Gate) (x y : CellNo) {s : List ℕ} {at mid : ℕ} {s₁ : List ℕ} → at + length (operandBytes (Gate g x y)) ≤ length s
-    → Wrote s at (truthTable g) mid s₁ → Writes (numberBytes (truthTable g)) at mid s s₁
-table-writes g x y fits w = leading-writes (pairBytes x y) (omega (arith, table-small g)) fits w
+pub table-writes : (g : gate.Gate) {s : List ℕ} {at mid : ℕ} {s₁ : List ℕ} → Writes (truthTable g ∷ []) at mid s s₁
+    → Writes (numberBytes (truthTable g)) at mid s s₁
+table-writes g w = rw (one-byte (truthTable g) (omega (arith, table-small g))) w
+
+pub kind-room : (c : Cell) {at room : ℕ} → at + length (cellBytes c) ≤ room → at < room
+kind-room c fits = omega (arith, cell-length c)
+
+pub table-room : (g : gate.Gate) (x y : CellNo) {at room : ℕ} → at + length (operandBytes (Gate g x y)) ≤ room → at < room
+table-room g x y fits = omega (arith, gate-length g x y)
 
 -- the cells from number n on
 pub cells-from : (cs : List Cell) (n : ℕ) → n < length cs

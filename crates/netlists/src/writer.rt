@@ -5,8 +5,8 @@ use number::CellNo;
 use number::Fault;
 use number::Refusal;
 ghost use mathlib.Core.Path.{_≡_};
-ghost use mathlib.Core.List.{_++_};
-ghost use Prim.Native.Nat.{_+_, _≤_};
+ghost use mathlib.Core.List.{[], _∷_, _++_};
+ghost use Prim.Native.Nat.{_+_, _<_, _≤_};
 ghost use lib.ListN.{length};
 ghost use lib.Seq.{sets};
 ghost use Rattle.number.specs.Counts.{ofCell};
@@ -66,7 +66,7 @@ fn file_length(i: u32, o: u32, words: &[u64]) -> usize
 }
 
 // The truth table of a gate: bit x + 2 y is what it gives.
-fn truth_table(g: Gate) -> u32
+fn truth_table(g: Gate) -> u8
     ensures { λ r. ⌜ r ≡ truthTable g ⌝ }
 {
     match g {
@@ -77,7 +77,7 @@ fn truth_table(g: Gate) -> u32
 }
 
 // The kind that is written for a cell.
-fn written_kind(c: Cell) -> u32
+fn written_kind(c: Cell) -> u8
     ensures { λ r. ⌜ r ≡ writtenKind c ⌝ }
 {
     match c {
@@ -87,6 +87,15 @@ fn written_kind(c: Cell) -> u32
         Cell::Gate(_, _, _) => 7,
         Cell::Register(_) => 6,
     }
+}
+
+// One byte, and the offset past it.
+fn write_byte(buffer: &mut [u8], at: usize, v: u8) -> usize
+    requires { ⌜ at < length (now buffer) ⌝ }
+    ensures { λ r. ⌜ Writes (v ∷ []) at r (now (buffer .entry)) (now (buffer .exit)) ⌝ }
+{
+    buffer[at] = v;
+    at + 1
 }
 
 fn write_pair(buffer: &mut [u8], at: usize, x: CellNo, y: CellNo) -> usize
@@ -102,7 +111,7 @@ fn write_gate(buffer: &mut [u8], at: usize, g: Gate, x: CellNo, y: CellNo) -> us
     requires { ⌜ SmallPair x y × (at + length (operandBytes (Cell.Gate g x y)) ≤ length (now buffer)) ⌝ }
     ensures { λ r. ⌜ Writes (operandBytes (Cell.Gate g x y)) at r (now (buffer .entry)) (now (buffer .exit)) ⌝ }
 {
-    let next = number::write_number(buffer, at, truth_table(g));
+    let next = write_byte(buffer, at, truth_table(g));
     write_pair(buffer, next, x, y)
 }
 
@@ -124,7 +133,7 @@ fn write_cell(buffer: &mut [u8], at: usize, c: Cell) -> usize
     requires { ⌜ SmallCell c × (at + length (cellBytes c) ≤ length (now buffer)) ⌝ }
     ensures { λ r. ⌜ Writes (cellBytes c) at r (now (buffer .entry)) (now (buffer .exit)) ⌝ }
 {
-    let next = number::write_number(buffer, at, written_kind(c));
+    let next = write_byte(buffer, at, written_kind(c));
     write_operands(buffer, next, c)
 }
 
