@@ -5,7 +5,7 @@
 #include <stdbool.h>
 #include <string.h>
 
-enum { SHORT = 1, NUMBER, KIND, COUNT, SCOPE, EMIT, EXIT, EXTRA, INSTANT, TWICE, ROOM, CYCLE, EVENT, STATE, BUFFER, CELL, ORDER = 20 };
+enum { SHORT = 1, NUMBER, KIND, COUNT, SCOPE, EMIT, EXIT, EXTRA, INSTANT, TWICE, ROOM, CYCLE, EVENT, STATE, BUFFER, CELL, COVER = 19, ORDER };
 enum { NOTHING, HALT, EMITS, SEQUENCE, LOOP, PRESENT, WATCHING, PARALLEL, TRAP, EXITS, SIGNAL };
 enum { LOW, HIGH, INPUT, OR, AND, BUTNOT, REGISTER };
 enum { STATEMENTS = 256, LEVELS = 64, HALTS = 63, SIGNALS = 64, TRAPS = 8, CELLS = 1024, REGISTERS = 64, CODES = 10 };
@@ -1193,4 +1193,121 @@ krankovel_reordered krankovel_reorder(krankovel_table table, uint64_t order)
         r.table.truth |= (uint16_t)((table.truth >> b & 1) << to);
     }
     return r;
+}
+
+/* ---- covers: a table's cone is searched to the depth, the value at all settings in one word. Marks count from a base that grows by two a table, so that none is cleared. ---- */
+
+enum { TABLE_SIZE = 1 + KRANKOVEL_PINS + 1 };
+
+struct cut {
+    const struct netlist *w;
+    uint32_t base;
+    uint32_t mark[CELLS]; /* up to the base new, one past it a pin that waits, two past it a cell whose word is known */
+    uint16_t word[CELLS];
+    uint8_t tabled[CELLS]; /* 1 a cell that has a table, 2 one that had it already */
+};
+
+/* Whether the way down from n, which is new, meets no register and no input but pins; then its word is known. */
+static bool cut_out(struct cut *k, unsigned n)
+{
+    struct cell c = k->w->at[n];
+    uint32_t base = k->base;
+    unsigned word = -(unsigned)c.kind; /* of a constant */
+    if (is_gate(c)) {
+        if (k->mark[c.x] > base)
+            k->mark[c.x] = base + 2;
+        else if (!cut_out(k, c.x))
+            return false;
+        if (k->mark[c.y] > base)
+            k->mark[c.y] = base + 2;
+        else if (!cut_out(k, c.y))
+            return false;
+        unsigned x = k->word[c.x], y = k->word[c.y];
+        word = c.kind == OR ? x | y : c.kind == AND ? x & y : x & ~y;
+    } else if (c.kind > HIGH) {
+        return false;
+    }
+    k->mark[n] = base + 2;
+    k->word[n] = (uint16_t)word;
+    return true;
+}
+
+static inline bool carried(const struct cut *k, unsigned n)
+{
+    return n < k->w->cells && (k->tabled[n] || !is_gate(k->w->at[n]));
+}
+
+static bool right_table(struct cut *k, const uint16_t *t)
+{
+    static const uint16_t words[KRANKOVEL_PINS] = {0xaaaa, 0xcccc, 0xf0f0, 0xff00};
+    const uint16_t *pins = t + 1;
+    uint32_t base = k->base;
+    unsigned n = t[0], counts = 0xffff;
+    if (n >= k->w->cells || !is_gate(k->w->at[n]) || k->tabled[n] == 2)
+        return false;
+    for (int p = 0; p < KRANKOVEL_PINS; p++) {
+        unsigned x = pins[p];
+        if (!carried(k, x))
+            return false;
+        if (k->mark[x] > base) {
+            counts &= ~(k->word[x] ^ words[p]);
+        } else {
+            k->mark[x] = base + 1;
+            k->word[x] = words[p];
+        }
+    }
+    if (k->mark[n] > base || !cut_out(k, n))
+        return false;
+    for (int p = 0; p < KRANKOVEL_PINS; p++)
+        if (pins[p] > HIGH && k->mark[pins[p]] == base + 1)
+            return false;
+    return ((k->word[n] ^ t[TABLE_SIZE - 1]) & counts) == 0;
+}
+
+static bool complete(const struct cut *k)
+{
+    const struct netlist *w = k->w;
+    for (unsigned n = 2 + w->inputs; n < 2 + w->inputs + w->outputs; n++)
+        if (!carried(k, n))
+            return false;
+    for (unsigned n = 0; n < w->cells; n++)
+        if (w->at[n].kind == REGISTER && !carried(k, w->at[n].x))
+            return false;
+    return true;
+}
+
+/* A cover of a netlist that was taken. */
+static krankovel_answer covered(krankovel_answer a, const struct netlist *w, const uint16_t *cover, size_t length)
+{
+    struct cut k;
+    size_t tables = length / TABLE_SIZE;
+    if (a.number)
+        return a;
+    k.w = w;
+    memset(k.mark, 0, w->cells * sizeof *k.mark);
+    memset(k.tabled, 0, w->cells);
+    for (size_t i = 0; i < tables; i++)
+        if (cover[i * TABLE_SIZE] < w->cells)
+            k.tabled[cover[i * TABLE_SIZE]] = 1;
+    for (size_t i = 0; i < tables; i++) {
+        k.base = 2 * (uint32_t)i;
+        if (!right_table(&k, cover + i * TABLE_SIZE))
+            return refusal(COVER, i);
+        k.tabled[cover[i * TABLE_SIZE]] = 2;
+    }
+    if (length % TABLE_SIZE || !complete(&k))
+        return refusal(COVER, tables);
+    return a;
+}
+
+krankovel_answer krankovel_cover_file(const uint8_t *file, size_t file_length, const uint16_t *cover, size_t length)
+{
+    struct netlist w;
+    return covered(load_file(file, file_length, &w, NULL), &w, cover, length);
+}
+
+krankovel_answer krankovel_cover_cells(uint32_t inputs, uint32_t outputs, const uint64_t *words, size_t count, const uint16_t *cover, size_t length)
+{
+    struct netlist w;
+    return covered(load_words(inputs, outputs, words, count, &w, NULL), &w, cover, length);
 }

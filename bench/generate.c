@@ -2,6 +2,9 @@
    Use: generate sheet N SHEET FILE    an accepted sheet of N statements, and its netlist file
         generate netlist N FILE        a netlist file of N cells, 64 of them registers
         generate registers FILE        a netlist file of 63 inputs and 64 registers, and no gate
+        generate chain N FILE COVER    a netlist file of N cells, an input and ors of the cell before, and a cover of it in which each table goes down to the input
+        generate each FILE COVER       a cover of the netlist file: a table for every gate
+        generate packed FILE COVER     the same: cones of up to four leaves, for outputs, registers' operands, and leaves that are gates
    A sheet grows out of loops side by side, each over two waits (`06i01`, a halt guarded by an input): some wait is replaced by a small piece with waits of its own, and
    what the check refuses, or is too large, is taken back. So every part is reached again and again. */
 #include "krankovel.h"
@@ -150,12 +153,145 @@ static int make_registers(const char *file)
     return a.number || save(file, bytes, length);
 }
 
+/* ---- covers ---- */
+
+static struct cell {
+    unsigned kind, x, y;
+} cells[CELLS];
+static uint16_t word[CELLS];
+static unsigned met[CELLS], round_of; /* the cells whose words are those of this round */
+static krankovel_table cover[CELLS];
+static size_t tables;
+
+static int is_gate(unsigned n)
+{
+    return cells[n].kind >= 3 && cells[n].kind <= 5;
+}
+
+/* The value of a cell at all settings of the pins, whose words are there. */
+static uint16_t value(unsigned n)
+{
+    if (met[n] != round_of) {
+        uint16_t x = n > 1 ? value(cells[n].x) : 0, y = n > 1 ? value(cells[n].y) : 0;
+        word[n] = n < 2 ? (uint16_t)-n : cells[n].kind == 3 ? x | y : cells[n].kind == 4 ? x & y : (uint16_t)(x & ~y);
+        met[n] = round_of;
+    }
+    return word[n];
+}
+
+/* A table for cell n with these leaves; the pins that are left over are at the first leaf again, or at low. */
+static void put_table(unsigned n, const uint16_t *leaves, unsigned count)
+{
+    static const uint16_t words[KRANKOVEL_PINS] = {0xaaaa, 0xcccc, 0xf0f0, 0xff00};
+    krankovel_table *t = &cover[tables++];
+    round_of++;
+    t->cell = (uint16_t)n;
+    for (unsigned p = 0; p < KRANKOVEL_PINS; p++)
+        t->pins[p] = p < count ? leaves[p] : count ? leaves[0] : 0;
+    for (unsigned p = KRANKOVEL_PINS; p-- > 0;) {
+        word[t->pins[p]] = words[p];
+        met[t->pins[p]] = round_of;
+    }
+    t->truth = value(n);
+}
+
+/* Puts the operands of a cell among the leaves. A cell that is inside stays there, and a constant needs no pin. */
+static unsigned add_leaves(unsigned n, uint16_t *leaves, unsigned count, const uint8_t *inside)
+{
+    const unsigned operands[] = {cells[n].x, cells[n].y};
+    for (int i = 0; i < 2; i++) {
+        unsigned k = 0;
+        while (k < count && leaves[k] != operands[i])
+            k++;
+        if (k == count && operands[i] > 1 && !inside[operands[i]])
+            leaves[count++] = (uint16_t)operands[i];
+    }
+    return count;
+}
+
+/* A cone over cell n, as wide as may be. */
+static void put_cone(unsigned n)
+{
+    uint8_t inside[CELLS] = {0};
+    uint16_t leaves[KRANKOVEL_PINS], wider[KRANKOVEL_PINS + 1];
+    unsigned count = add_leaves(n, leaves, 0, inside);
+    inside[n] = 1;
+    for (unsigned i = 0; i < count; i++) {
+        if (!is_gate(leaves[i]))
+            continue;
+        inside[leaves[i]] = 1;
+        memcpy(wider, leaves, sizeof leaves);
+        wider[i] = leaves[count - 1];
+        unsigned more = add_leaves(leaves[i], wider, count - 1, inside);
+        inside[leaves[i]] = more <= KRANKOVEL_PINS;
+        if (more <= KRANKOVEL_PINS) {
+            memcpy(leaves, wider, sizeof leaves);
+            count = more;
+            i = (unsigned)-1;
+        }
+    }
+    put_table(n, leaves, count);
+}
+
+/* Only the settings count in which all four pins are alike. */
+static int make_chain(unsigned count, const char *file, const char *to)
+{
+    static uint8_t bytes[FILE_MOST];
+    static uint64_t words[CELLS] = {0, 1, 2 + 8};
+    if (count > CELLS)
+        return 1;
+    for (unsigned n = 3; n < count; n++) {
+        words[n] = 3 + 8 * (uint64_t)(n - 1) + 524288 * (uint64_t)(n - 1);
+        cover[tables++] = (krankovel_table){(uint16_t)n, {2, 2, 2, 2}, 0x8000};
+    }
+    krankovel_answer a = krankovel_write_cells(1, 0, words, count, bytes, sizeof bytes);
+    size_t length = krankovel_write_cells(1, 0, words, count, bytes, 0).place;
+    return a.number || save(file, bytes, length) || save(to, (const uint8_t *)cover, tables * sizeof *cover);
+}
+
+static int make_cover(int packed, const char *file, const char *to)
+{
+    static uint8_t bytes[FILE_MOST], asked[CELLS];
+    static uint64_t words[CELLS];
+    FILE *in = fopen(file, "rb");
+    size_t length = in ? fread(bytes, 1, sizeof bytes, in) : 0;
+    krankovel_listing l = krankovel_read_file(bytes, length, words, CELLS);
+    for (unsigned n = 0; n < l.cells; n++)
+        cells[n] = (struct cell){words[n] & 7, words[n] >> 3 & 65535, words[n] >> 19 & 65535};
+    for (unsigned n = 2 + l.inputs; n < l.cells; n++)
+        if (cells[n].kind == 6)
+            asked[cells[n].x] = 1;
+        else if (!packed || n < 2u + l.inputs + l.outputs)
+            asked[n] = 1;
+    size_t before;
+    do { /* a leaf may be any cell, so that all are looked through until no table is new */
+        before = tables;
+        for (unsigned n = 0; n < l.cells; n++)
+            if (asked[n] == 1 && is_gate(n)) {
+                asked[n] = 2;
+                if (packed)
+                    put_cone(n);
+                else
+                    put_table(n, (uint16_t[]){(uint16_t)cells[n].x, (uint16_t)cells[n].y}, 2);
+                for (const uint16_t *x = cover[tables - 1].pins; x < cover[tables - 1].pins + KRANKOVEL_PINS; x++)
+                    if (!asked[*x])
+                        asked[*x] = 1;
+            }
+    } while (tables > before);
+    size_t numbers = tables * sizeof *cover / sizeof(uint16_t);
+    return krankovel_cover_file(bytes, length, (const uint16_t *)cover, numbers).number || save(to, (const uint8_t *)cover, tables * sizeof *cover);
+}
+
 int main(int argc, char **argv)
 {
     if (argc == 3 && !strcmp(argv[1], "registers"))
         return make_registers(argv[2]);
+    if (argc == 5 && !strcmp(argv[1], "chain"))
+        return make_chain((unsigned)atoi(argv[2]), argv[3], argv[4]);
     if (argc == 5 && !strcmp(argv[1], "sheet"))
         return make_sheet((unsigned)atoi(argv[2]), argv[3], argv[4]);
+    if (argc == 4 && (!strcmp(argv[1], "each") || !strcmp(argv[1], "packed")))
+        return make_cover(!strcmp(argv[1], "packed"), argv[2], argv[3]);
     if (argc == 4 && !strcmp(argv[1], "netlist"))
         return make_netlist((unsigned)atoi(argv[2]), argv[3]);
     return 2;

@@ -1,7 +1,7 @@
 /* The deepest stack of each public entry. Each call is made on a stack of its own that was painted before; how far the paint is gone afterwards is what the call used.
    Use: stack QUESTIONS    (crates/answers/stdin)
    The inputs are the sheets and files of the stored questions, and those made here: statements nested 64 levels deep, of every kind and to either side, sheets of 256 statements,
-   netlists of 1,024 cells in one chain, and the same closed to a cycle. Exits 1 where an entry needs 64 KB or more. */
+   netlists of 1,024 cells in one chain, and the same closed to a cycle; the covers are made here. Exits 1 where an entry needs 64 KB or more. */
 #include "krankovel.h"
 
 #include <stdio.h>
@@ -15,6 +15,8 @@ enum { STACK = 1 << 17, LIMIT = 1 << 16, LINE = 1 << 17, CELLS = 1024, FILE_MOST
 static uint8_t bytes[LINE], buffer[FILE_MOST];
 static size_t length, cells;
 static uint32_t inputs, outputs;
+static krankovel_table cover[CELLS], bare; /* a table for each gate; one without pins, whose way goes down through all cells below the first gate */
+static size_t numbers;
 static uint64_t words[CELLS], handed[CELLS], events[EVENTS], signals[EVENTS], states[EVENTS];
 static unsigned sink;
 
@@ -41,6 +43,18 @@ static void react_cells_many(void)
 
 static void reorder(void) { sink += krankovel_reorder((krankovel_table){1, {2, 3, 4, 5}, (uint16_t)length}, length % 25).number; }
 
+static void cover_file(void)
+{
+    sink += krankovel_cover_file(bytes, length, (const uint16_t *)cover, numbers).number;
+    sink += krankovel_cover_file(bytes, length, (const uint16_t *)&bare, sizeof bare / sizeof(uint16_t)).number;
+}
+
+static void cover_cells(void)
+{
+    sink += krankovel_cover_cells(inputs, outputs, words, cells, (const uint16_t *)cover, numbers).number;
+    sink += krankovel_cover_cells(inputs, outputs, words, cells, (const uint16_t *)&bare, sizeof bare / sizeof(uint16_t)).number;
+}
+
 static struct {
     const char *name;
     void (*call)(void);
@@ -51,6 +65,7 @@ static struct {
     {"rest", rest, 0, ""}, {"react", react, 0, ""}, {"react_many", react_many, 0, ""}, {"check_file", check_file, 0, ""}, {"read_file", read_file, 0, ""},
     {"react_file", react_file, 0, ""}, {"react_file_many", react_file_many, 0, ""}, {"check_cells", check_cells, 0, ""}, {"write_cells", write_cells, 0, ""},
     {"react_cells", react_cells, 0, ""}, {"react_cells_many", react_cells_many, 0, ""}, {"reorder", reorder, 0, ""},
+    {"cover_file", cover_file, 0, ""}, {"cover_cells", cover_cells, 0, ""},
 };
 enum { ENTRIES = sizeof entries / sizeof *entries };
 
@@ -76,8 +91,24 @@ static size_t depth(void (*call)(void))
 
 static size_t own; /* what a call of nothing uses */
 
+/* The covers of the words. */
+static void take_covers(void)
+{
+    static const uint16_t truth[] = {0xeeee, 0x8888, 0x2222};
+    size_t n = 0;
+    for (size_t i = 0; i < cells; i++) {
+        uint64_t kind = words[i] & 7;
+        uint16_t x = (uint16_t)(words[i] >> 3), y = (uint16_t)(words[i] >> 19);
+        if (kind >= 3 && kind <= 5)
+            cover[n++] = (krankovel_table){(uint16_t)i, {x, y, x, y}, truth[kind - 3]};
+    }
+    numbers = n * sizeof *cover / sizeof(uint16_t);
+    bare = (krankovel_table){cover[0].cell, {0, 1, 0, 1}, 0};
+}
+
 static void measure(const char *on)
 {
+    take_covers();
     for (int i = 0; i < ENTRIES; i++) {
         size_t d = depth(entries[i].call) - own;
         if (d > entries[i].deepest) {

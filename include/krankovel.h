@@ -1,4 +1,5 @@
-/* Krankovel for C: Pure Esterel sheets are checked, compiled to netlists and run; netlists are checked, run, read and written; tables of a packer are reordered.
+/* Krankovel for C: Pure Esterel sheets are checked, compiled to netlists and run; netlists are checked, run, read and written; tables of a packer are reordered,
+   and its covers checked.
 
    Build:    rt staticlib krankovel_c        makes target/staticlib/libkrankovel_c.a (x86-64 Linux)
    Link:     cc PROGRAM.c -I include target/staticlib/libkrankovel_c.a
@@ -8,8 +9,8 @@
    call any of them at a time. Each was measured to need less than 64 KB of stack (docs/SPEED.md has the figure of each).
 
    A SLICE is a pointer and a length, the number of its elements. The pointer is never null, also where the length is 0: then any other pointer will do, and it is not
-   followed. A pointer to uint64_t is a multiple of 8. A slice that an entry writes (`buffer`; `words` where they are not const; `emissions`, `outputs`, `signals`, `states`)
-   overlaps no other slice of the same call.
+   followed. A pointer to uint64_t is a multiple of 8, one to uint16_t of 2. A slice that an entry writes (`buffer`; `words` where they are not const; `emissions`, `outputs`,
+   `signals`, `states`) overlaps no other slice of the same call.
    Lent slices are written only on acceptance, and only as far as the answer reaches.
 
    NUMBERS AND PLACES. Every answer has a number, 0 for acceptance, and a place, 0 on acceptance:
@@ -35,10 +36,11 @@
      16  CELL     cells 0..I+1 not as they must be, kinds 0 to 2 elsewhere, an operand that    offset of the kind, truth table,
                   is no cell, a truth table that is none of the three, fewer than 2+I+O        operand or count
                   cells, or something in a field that is not used
+     19  COVER    a wrong table; or an output or a register's operand has none                 the first wrong table's number, or the number of tables
      20  ORDER    a pin order of 24 or more                                                    0
 
    Where a netlist is handed in as words there are no bytes, and what would be an offset is 0. The numbers are looked for in the order 1 to 8 as the bytes are read, then 9, 10,
-   11, 12 (for a netlist 1 to 4 and 16, 8, then 12), then 13, 14, 15. The first one found answers. The counts and signals of a refusal are 0, its state is the one handed in.
+   11, 12 (for a netlist 1 to 4 and 16, 8, then 12), then 13, 14, 15, or 19. The first one found answers. The counts and signals of a refusal are 0, its state is the one handed in.
 
    SIGNALS. Signal 0 is tick, then come the I inputs, the O outputs, the locals. In a word signal s is bit s. An event has the inputs that are present, bits 1..I.
 
@@ -84,6 +86,7 @@ enum {
     KRANKOVEL_STATE = 14,
     KRANKOVEL_BUFFER = 15,
     KRANKOVEL_CELL = 16,
+    KRANKOVEL_COVER = 19,
     KRANKOVEL_ORDER = 20
 };
 
@@ -217,13 +220,24 @@ krankovel_course krankovel_react_cells_many(uint32_t inputs, uint32_t outputs, c
    14, 20, 16, 22, 9, 11, 15, 21, 17, 23. Refusals: 20. */
 krankovel_reordered krankovel_reorder(krankovel_table table, uint64_t order);
 
-/* ---- covers: six numbers a table, its cell, its four pins and its truth table, as an array of `struct { uint16_t cell, pins[4], truth; }` lies in memory; `length` counts numbers ---- */
+/* ---- covers ----
 
-/* Checks a cover of the netlist in a file. Refusals: 1 to 4, 8, 12, 16; 19, whose place is the number of the first wrong table from 0 on, or the number of tables where an output
-   or a register's operand lacks one. */
+   A cover is a slice of 16-bit numbers, six a table: its cell, its four pins, its truth table. An array of krankovel_table lies so in memory: hand it in as a pointer to
+   uint16_t, with six times its length. It is the caller's; it is read and not written, and nothing of it is kept. Any numbers may stand in it, in any length. Tables are numbered
+   from 0.
+
+   A table is right if its cell is a gate (kind 3 to 5), and no table before it has the same cell; if each pin is a gate with a table, a register, an input or a constant; if each
+   pin but a constant is met on the way down from the operands of the table's cell, the way ending at pins; if a register or an input that is met is a pin; and if at all sixteen
+   settings of the pins the truth table has the value of the cell, the cells being cut at the pins. A constant needs no pin; at a pin it is free like any other net. Where one net
+   is at two pins, only settings count that give it one value. Fewer than six numbers at the end are a wrong table, for no cell. A cover is accepted exactly if all tables are
+   right, and each output and each register's operand is a gate with a table, a register, an input or a constant. Then the tables alone give the netlist's outputs and next state,
+   for every event and state. */
+
+/* Checks a cover of the netlist in a file. The cells answered are the netlist's. Refusals: 1 to 4, 8, 12, 16, the file's own; then 19, whose place is the number of the first
+   wrong table, or the number of tables where none is wrong and an output or a register's operand lacks one. */
 krankovel_answer krankovel_cover_file(const uint8_t *file, size_t file_length, const uint16_t *cover, size_t length);
 
-/* The same of a netlist as words. Refusals: 3, 4, 12, 16; 19. */
+/* The same of a netlist as words. Refusals: 3, 4, 12, 16; then 19. */
 krankovel_answer krankovel_cover_cells(uint32_t inputs, uint32_t outputs, const uint64_t *words, size_t count, const uint16_t *cover, size_t length);
 
 #ifdef __cplusplus

@@ -222,26 +222,58 @@ static void try_chain(int step, unsigned closed)
     same("its check", name, a.number == (closed ? 12 : 0) && a.place == closed && a.cells == (closed ? 0 : CELLS));
 }
 
+/* A cover, its tables as a question has them: what is answered for a file is answered for its cells. */
+static void try_cover(const char *hex, const uint8_t *file, size_t length, const char *tables)
+{
+    static uint64_t words[CELLS];
+    static uint16_t cover[LINE];
+    size_t n = 0;
+    while (*tables && *tables != '-') {
+        cover[n] = (uint16_t)strtoul(tables, (char **)&tables, n % (2 + KRANKOVEL_PINS) == 1 + KRANKOVEL_PINS ? 16 : 10);
+        n++;
+        tables += *tables != 0;
+    }
+    krankovel_answer a = krankovel_cover_file(file, length, cover, n);
+    krankovel_listing l = krankovel_read_file(file, length, words, CELLS);
+    if (l.number) {
+        same("the file's fault before its cover's", hex, a.number == l.number && a.place == l.place && a.statements == 0 && a.cells == 0);
+        return;
+    }
+    krankovel_answer c = krankovel_cover_cells(l.inputs, l.outputs, words, l.cells, cover, n);
+    same("a cover of cells", hex, c.number == a.number && c.place == a.place && c.statements == 0 && c.cells == a.cells);
+    same("a cover's answer", hex, a.number ? a.number == KRANKOVEL_COVER && a.cells == 0 && a.place <= n / (2 + KRANKOVEL_PINS) : a.place == 0 && a.cells == l.cells);
+    for (size_t k = 1; k < 2 + KRANKOVEL_PINS; k++) {
+        cover[n + k - 1] = 0;
+        c = krankovel_cover_file(file, length, cover, n + k);
+        same("an incomplete table behind it", hex, c.number == KRANKOVEL_COVER && c.cells == 0 && c.place == (a.number ? a.place : n / (2 + KRANKOVEL_PINS)));
+    }
+}
+
 int main(int argc, char **argv)
 {
     static char question[LINE], last[LINE];
     static uint8_t b[LINE];
-    unsigned long sheets = 0, files = 0;
+    unsigned long sheets = 0, files = 0, covers = 0;
     FILE *in = argc == 2 ? fopen(argv[1], "r") : NULL;
     if (!in) {
         fprintf(stderr, "use: entries QUESTIONS\n");
         return 2;
     }
     while (fgets(question, sizeof question, in)) {
-        char *kind = strtok(question, " \n"), *hex = strtok(NULL, " \n");
+        char *kind = strtok(question, " \n"), *hex = strtok(NULL, " \n"), *tables = strtok(NULL, " \n");
         size_t n = 0;
         unsigned byte;
-        if (!kind || !hex || strlen(hex) % 2 || strspn(hex, "0123456789abcdefABCDEF") != strlen(hex) || !strcmp(hex, last))
+        int again = hex && !strcmp(hex, last), cover = kind && !strcmp(kind, "cover");
+        if (!kind || !hex || strlen(hex) % 2 || strspn(hex, "0123456789abcdefABCDEF") != strlen(hex) || (again && !cover))
             continue;
         while (sscanf(hex + 2 * n, "%2x", &byte) == 1)
             b[n++] = (uint8_t)byte;
         strcpy(last, hex);
-        if (!strcmp(kind, "file") || !strcmp(kind, "reactfile")) {
+        if (cover) {
+            covers += tables != NULL;
+            if (tables)
+                try_cover(hex, b, n, tables);
+        } else if (!strcmp(kind, "file") || !strcmp(kind, "reactfile")) {
             files++;
             try_file(hex, b, n);
         } else if (strcmp(kind, "rest") && strcmp(kind, "order")) {
@@ -252,6 +284,6 @@ int main(int argc, char **argv)
     for (unsigned closed = 0; closed < CELLS; closed += closed ? 73 : 2)
         for (int step = -1; step < 2; step += 2)
             try_chain(step, closed);
-    printf("entries: %lu sheets, %lu files, %lu comparisons, %lu of them differ\n", sheets, files, compared, differing);
+    printf("entries: %lu sheets, %lu files, %lu covers, %lu comparisons, %lu of them differ\n", sheets, files, covers, compared, differing);
     return differing != 0 || compared == 0;
 }

@@ -65,16 +65,37 @@ static int print_file(char *to, const uint8_t *sheet, size_t n, const char *room
     return i == MOST;
 }
 
+/* The table that a word begins with, and behind it. */
+static const char *take_table(const char *from, krankovel_table *t)
+{
+    int size = 0;
+    sscanf(from, "%" SCNu16 ":%" SCNu16 ":%" SCNu16 ":%" SCNu16 ":%" SCNu16 ":%" SCNx16 "%n", &t->cell, &t->pins[0], &t->pins[1], &t->pins[2], &t->pins[3],
+        &t->truth, &size);
+    return from + size;
+}
+
 /* The answer with the table that it gives. */
 static void print_reordered(char *to, const char *order, const char *table)
 {
     krankovel_table t = {0};
-    sscanf(table, "%" SCNu16 ":%" SCNu16 ":%" SCNu16 ":%" SCNu16 ":%" SCNu16 ":%" SCNx16, &t.cell, &t.pins[0], &t.pins[1], &t.pins[2], &t.pins[3], &t.truth);
+    take_table(table, &t);
     krankovel_reordered r = krankovel_reorder(t, strtoull(order, NULL, 10));
     to += sprintf(to, "%u %zu %u", r.number, r.place, r.table.cell);
     for (int p = 0; p < KRANKOVEL_PINS; p++)
         to += sprintf(to, ":%u", r.table.pins[p]);
     sprintf(to, ":%x", r.table.truth);
+}
+
+/* The answer to a cover, its tables with a comma between two. */
+static krankovel_answer cover(const uint8_t *file, size_t n, const char *tables)
+{
+    static krankovel_table all[LINE];
+    size_t count = 0;
+    while (*tables && *tables != '-') {
+        tables = take_table(tables, &all[count++]);
+        tables += *tables == ',';
+    }
+    return krankovel_cover_file(file, n, (const uint16_t *)all, count * (2 + KRANKOVEL_PINS));
 }
 
 /* Answers a question of so many words; 0 where it is none that the library answers. */
@@ -100,6 +121,8 @@ static int answer(char *words[WORDS], int count, char *to)
         print_reaction(to, krankovel_react_file(b, n, word(words[2]), word(words[3])));
     } else if (!strcmp(words[0], "rest") && count == 2) {
         sprintf(to, "%d", krankovel_rest(word(words[1])));
+    } else if (!strcmp(words[0], "cover") && count == 3) {
+        print_answer(to, cover(b, n, words[2]));
     } else if (!strcmp(words[0], "order") && count == 3) {
         print_reordered(to, words[1], words[2]);
     } else {

@@ -1,5 +1,6 @@
 //! The answer to a question, as the paper has it. On the way rules and netlist are compared (demand 3).
 
+use crate::cover::{self, numbers_of};
 use crate::file;
 use crate::netlist::Netlist;
 use crate::rules::{self, Guess};
@@ -110,6 +111,7 @@ impl Agreement {
             [b"write", sheet, length] => Some(write_line(&bytes_of(sheet)?, decimal_value(length)?)),
             [b"file", bytes] => Some(file_line(&bytes_of(bytes)?)),
             [b"fits", sheet, state] => Some(sheet_line(fits(&bytes_of(sheet)?, hex_value(state)?))),
+            [b"cover", bytes, tables] => Some(cover_answer(&file::read(&bytes_of(bytes)?), &tables_of(tables)?)),
             [b"order", order, table] => table::line(order, table),
             [b"react", sheet, state, event] => {
                 let (bytes, state, event) = (bytes_of(sheet)?, hex_value(state)?, hex_value(event)?);
@@ -171,6 +173,24 @@ fn sheet_line(answer: Checked<Program>) -> String {
 fn file_line(bytes: &[u8]) -> String {
     match file::read(bytes) {
         Ok(netlist) => format!("0 0 0 {}", netlist.cells.len()),
+        Err(fault) => refusal(fault),
+    }
+}
+
+/// The tables' numbers one after another: a comma between two tables, or `-` for none.
+fn tables_of(text: &[u8]) -> Option<Vec<u16>> {
+    if text == b"-" {
+        return Some(Vec::new());
+    }
+    let tables: Option<Vec<_>> = text.split(|b| *b == b',').map(table::table_of).collect();
+    Some(tables?.iter().flat_map(numbers_of).collect())
+}
+
+/// The answer to a cover of a netlist, or of what was wrong with it.
+pub fn cover_answer(netlist: &Checked<Netlist>, cover: &[u16]) -> String {
+    let checked = netlist.as_ref().map_err(Fault::clone).and_then(|n| cover::check(n, cover).map(|_| n.cells.len()));
+    match checked {
+        Ok(cells) => format!("0 0 0 {cells}"),
         Err(fault) => refusal(fault),
     }
 }

@@ -2,13 +2,17 @@
 //!
 //!     cargo run --release -- ANSWERS [COUNT] [SEED]          ANSWERS is a command that answers the questions it reads
 //!     cargo run --release -- trace TRACE [COUNT] [SEED]      the same of the trace program: TRACE is run once for each input
+//!     cargo run --release -- covers LIBRARY [COUNT] [SEED]   covers of so many netlists: LIBRARY is a command that puts questions to the C library
 //!     cargo run --release -- vectors QUESTIONS ANSWERS       the model alone against answers that are stored
 //!     cargo run --release -- search SIZE                     the model alone: demand 3 of all programs of up to SIZE statements that request 1 newly accepts
 
 mod answers;
+mod cover;
+mod covers;
 mod file;
 mod make;
 mod netlist;
+mod packer;
 mod questions;
 mod random;
 mod rules;
@@ -19,6 +23,7 @@ mod table;
 mod trace;
 
 use answers::Agreement;
+use covers::Covers;
 use questions::Questions;
 use random::Random;
 use search::Search;
@@ -154,6 +159,34 @@ fn traces(command: &str, count: usize, seed: u64) -> bool {
     report_agreement(&agreement) && differing == 0
 }
 
+/// Covers of so many netlists, some at a time.
+fn covers(command: &str, count: usize, seed: u64) -> bool {
+    println!("seed {seed}, covers of {count} netlists");
+    let (mut random, mut covers) = (Random(seed), Covers::default());
+    let ask = |asked: &[String]| {
+        let input: String = asked.iter().map(|line| format!("{line}\n")).collect();
+        let text = run(command, input.as_bytes());
+        String::from_utf8_lossy(&text).lines().map(str::to_string).collect::<Vec<_>>()
+    };
+    while covers.netlists < count {
+        covers.compare(&mut random, 100.min(count - covers.netlists), &ask);
+    }
+    for (what, (accepted, refused)) in &covers.tried {
+        println!("    {what}: {accepted} accepted, {refused} refused");
+    }
+    for wrong in covers.differing.iter().take(SHOWN) {
+        wrong.lines().for_each(|line| println!("{}", readable(line.as_bytes())));
+    }
+    let Covers { netlists, gates, tables, compared, reactions, .. } = covers;
+    println!("{tables} tables for {gates} gates of {netlists} netlists");
+    println!("{compared} answers compared, of them {reactions} clocks by tables and by cells, {} differ (seed {seed})", covers.differing.len());
+    if count >= 1000 && !covers.never_refused().is_empty() {
+        println!("never refused: {:?}", covers.never_refused());
+        return false;
+    }
+    covers.differing.is_empty()
+}
+
 fn main() {
     let words: Vec<String> = std::env::args().skip(1).collect();
     let number = |i: usize, other: u64| words.get(i).map_or(Some(other), |text| text.parse().ok());
@@ -162,13 +195,14 @@ fn main() {
         [word, questions, answers] if word == "vectors" => Some(vectors(questions, answers)),
         [word, size] if word == "search" => size.parse().ok().map(search),
         [word, command, ..] if word == "trace" => number(2, 1000).zip(number(3, now)).map(|(count, seed)| traces(command, count as usize, seed)),
+        [word, command, ..] if word == "covers" => number(2, 1000).zip(number(3, now)).map(|(count, seed)| covers(command, count as usize, seed)),
         [command, ..] => number(1, 100_000).zip(number(2, now)).map(|(count, seed)| independent(command, count as usize, seed)),
         [] => None,
     };
     match good {
         Some(good) => exit(!good as i32),
         None => {
-            println!("usage: cargo run --release -- ANSWERS [COUNT] [SEED], or trace TRACE [COUNT] [SEED], or vectors QUESTIONS ANSWERS, or search SIZE");
+            println!("usage: cargo run --release -- ANSWERS [COUNT] [SEED], or trace TRACE [COUNT] [SEED], or covers LIBRARY [COUNT] [SEED], or vectors QUESTIONS ANSWERS, or search SIZE");
             exit(2);
         }
     }

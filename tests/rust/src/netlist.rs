@@ -205,8 +205,13 @@ impl Netlist {
         Netlist { inputs: sheet.inputs, outputs: sheet.outputs, cells }
     }
 
+    /// Whether a number is that of a gate, "kind 3 to 5".
+    pub fn is_gate(&self, cell: usize) -> bool {
+        matches!(self.cells.get(cell), Some(Cell::Or(..) | Cell::And(..) | Cell::Butnot(..)))
+    }
+
     /// The cells that a cell's value hangs on in the same clock: a register ends a way.
-    fn operands(&self, cell: usize) -> Vec<usize> {
+    pub fn operands(&self, cell: usize) -> Vec<usize> {
         match self.cells[cell] {
             Cell::Or(x, y) | Cell::And(x, y) | Cell::Butnot(x, y) => vec![x, y],
             _ => Vec::new(),
@@ -304,12 +309,17 @@ impl Netlist {
         1 + self.inputs..1 + self.inputs + self.outputs
     }
 
-    /// "Registers in cell order are bits 0, 1, .. of the state."
-    pub fn next_state(&self, values: &[bool]) -> u64 {
-        let operands = self.cells.iter().filter_map(|c| match c {
+    /// The operands of the registers, in cell order.
+    pub fn register_operands(&self) -> Vec<usize> {
+        let operand = |cell: &Cell| match cell {
             Cell::Register(x) => Some(*x),
             _ => None,
-        });
-        operands.enumerate().map(|(bit, x)| (values[x] as u64) << bit).sum()
+        };
+        self.cells.iter().filter_map(operand).collect()
+    }
+
+    /// "Registers in cell order are bits 0, 1, .. of the state."
+    pub fn next_state(&self, values: &[bool]) -> u64 {
+        self.register_operands().into_iter().enumerate().map(|(bit, x)| (values[x] as u64) << bit).sum()
     }
 }

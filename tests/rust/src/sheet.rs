@@ -26,6 +26,7 @@ pub const EVENT: u32 = 13;
 pub const STATE: u32 = 14;
 pub const BUFFER: u32 = 15;
 pub const CELL: u32 = 16;
+pub const COVER: u32 = 19;
 pub const ORDER: u32 = 20;
 
 pub fn refuse<T>(number: u32, place: usize) -> Checked<T> {

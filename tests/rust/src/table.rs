@@ -1,18 +1,19 @@
-//! A packer's table with its pins in another order.
+//! A packer's table, and the same with its pins in another order.
 
 use crate::answers::decimal;
 use crate::sheet::ORDER;
 
-const PINS: usize = 4;
+pub const PINS: usize = 4;
 
-struct Table {
-    cell: u16,
-    pins: Vec<u16>,
-    truth: u16,
+#[derive(Clone, Debug)]
+pub struct Table {
+    pub cell: u16,
+    pub pins: Vec<u16>,
+    pub truth: u16,
 }
 
 /// Five decimal numbers of 1 to 5 digits and 1 to 4 hex digits, a colon between two.
-fn table_of(text: &[u8]) -> Option<Table> {
+pub fn table_of(text: &[u8]) -> Option<Table> {
     let parts: Vec<&[u8]> = text.split(|b| *b == b':').collect();
     let (truth, cells) = parts.split_last()?;
     let cells: Option<Vec<u16>> = cells.iter().map(|part| u16::try_from(decimal(part, 5)?).ok()).collect();
@@ -25,7 +26,7 @@ fn table_of(text: &[u8]) -> Option<Table> {
 }
 
 /// Every list of these pins, in dictionary order.
-fn orders(pins: &[usize]) -> Vec<Vec<usize>> {
+pub fn orders(pins: &[usize]) -> Vec<Vec<usize>> {
     if pins.is_empty() {
         return vec![Vec::new()];
     }
@@ -38,7 +39,7 @@ fn orders(pins: &[usize]) -> Vec<Vec<usize>> {
 }
 
 /// The new bit at a setting of the new pins is the old bit where each old pin has the value of the new pin that carries it.
-fn reordered(table: &Table, carried: &[usize]) -> Table {
+pub fn reordered(table: &Table, carried: &[usize]) -> Table {
     let old = |setting: usize| -> usize { (0..PINS).map(|q| (setting >> q & 1) << carried[q]).sum() };
     let truth = (0..1 << PINS).map(|setting| (table.truth >> old(setting) & 1) << setting).sum();
     Table { cell: table.cell, pins: carried.iter().map(|p| table.pins[*p]).collect(), truth }
