@@ -9,7 +9,7 @@ use Rattle.number.specs.declared.Refusal.the-variants.{Cover}
 use Rattle.number.specs.Refusals.{fault}
 use Rattle.limits.specs.Limits.{maxCells}
 use Rattle.cells.specs.Words.{cellsOf}
-use Rattle.cells.specs.Netlist.{Netlist, netlistOf, WellFormed}
+use Rattle.cells.specs.Netlist.{netlistOf, WellFormed}
 use Rattle.cells.proofs.Words.{cells-length}
 use Rattle.cells.proofs.Fitting.{formed-closed}
 use Rattle.files.specs.declared.FileRead.the-variants.{Read}
@@ -18,9 +18,9 @@ use Rattle.files.specs.Read.{FileOutcome, netlist, faulty, readFile}
 use Rattle.netlists.specs.Words.{judgeCells}
 use Rattle.netlists.specs.Check.{NetChecks}
 use Rattle.netlists.specs.Checked.{DidCheck, DidCheckFile}
-use Rattle.netlists.proofs.Running.{file, file-is, file-formed, file-ordered, cells-formed, cells-ordered, accepts}
+use Rattle.netlists.proofs.Running.{file, file-is, cells-formed, accepts}
 use Rattle.netlist_entries.specs.Netlists.{netAccepted}
-use Rattle.netlist_entries.proofs.NetEntries.{checks, words-header, words-count, words-are}
+use Rattle.netlist_entries.proofs.NetEntries.{checks, words-header, words-are}
 use Rattle.covers.specs.Covers.{RightCover, FirstWrong}
 use Rattle.cuts.specs.Cutting.{HasOrder}
 use Rattle.covers.specs.Checking.{Judged}
@@ -29,7 +29,8 @@ use Rattle.verdicts.specs.Answers.{passes, stops, answerOf, refusal, acceptance
 use Rattle.cover_entries.specs.Covers.{own, right, wrong, Judges, CoverChecked}
 
 -- The columns suffice.
-pub judgeable : {I O : ℕ} (words : List ℕ) {tabled marks values stack : List ℕ} → WellFormed (netlistOf I O words) → HasOrder (cellsOf words)
+pub judgeable : {I O : ℕ} (words : List ℕ) {tabled marks values stack : List ℕ} → WellFormed (netlistOf I O words)
+    → HasOrder (cellsOf words)
     → maxCells ≤ length tabled → maxCells ≤ length marks → maxCells ≤ length values → maxCells ≤ length stack
     → Judged (cellsOf words) tabled marks values stack
 judgeable words formed order t m v s =
@@ -47,7 +48,8 @@ judgeable words formed order t m v s =
 
 -- A cover of a netlist.
 module _ {I O : ℕ} (words : List ℕ) {cover : List ℕ} where
-  pub is-right : {n : ℕ} → n ≡ length words → RightCover (netlistOf I O words) cover → Judges (netlist (netlistOf I O words)) cover (acceptance 0 n)
+  pub is-right : {n : ℕ} → n ≡ length words → RightCover (netlistOf I O words) cover
+      → Judges (netlist (netlistOf I O words)) cover (acceptance 0 n)
   unfolding answerOf netAccepted
   is-right e r = record { verdict = passes; judged = right r; answer = ap (acceptance 0) (e ∙ sym (cells-length words)) }
 
@@ -62,14 +64,17 @@ unfolding answerOf
 cover-refused {f = f} was = record { outcome = faulty f; checks = was; judges = record { verdict = stops f; judged = own; answer = refl } }
 
 -- A netlist in a file, and one as words.
-pub cover-file-checked : (s : List ℕ) {h : Header} {column column′ order : List ℕ} (d : DidCheckFile (readFile s) (Read h) column column′ order)
-    → maxCells ≤ length column → {cover : List ℕ} {r : Answer} → Judges (netlist (netlistOf (h .inputs) (h .outputs) (take (h .cells) column′))) cover r
+pub cover-file-checked : (s : List ℕ) {h : Header} {column column′ order : List ℕ}
+    (d : DidCheckFile (readFile s) (Read h) column column′ order)
+    → maxCells ≤ length column → {cover : List ℕ} {r : Answer}
+    → Judges (netlist (netlistOf (h .inputs) (h .outputs) (take (h .cells) column′))) cover r
     → CoverChecked (readFile s) cover r
 cover-file-checked s d long j =
     record { outcome = netlist (file s d long .found-as .net); checks = checks (file s d long); judges = rw (file-is s d long) at j }
 
 pub cover-words-checked : (I O : ℕ) (words : List ℕ) {h : Header} {order : List ℕ} (d : DidCheck (judgeCells I O words) (Read h) order)
-    {cover : List ℕ} {r : Answer} → Judges (netlist (netlistOf (h .inputs) (h .outputs) words)) cover r → CoverChecked (judgeCells I O words) cover r
+    {cover : List ℕ} {r : Answer} → Judges (netlist (netlistOf (h .inputs) (h .outputs) words)) cover r → CoverChecked
+    (judgeCells I O words) cover r
 cover-words-checked I O words d j =
     record { outcome = netlist (accepts d .found-as .net); checks = checks (accepts d); judges = rw (words-are I O words d) at j }
 

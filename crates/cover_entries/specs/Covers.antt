@@ -2,7 +2,6 @@
 use mathlib.Core.Path.{_≡_}
 use mathlib.Core.List.{List}
 use Prim.Native.Nat.{ℕ}
-use lib.ListN.{length}
 use Rattle.number.specs.declared.Fault.{Fault}
 use Rattle.number.specs.declared.Refusal.the-variants.{Cover}
 use Rattle.number.specs.Refusals.{fault}
@@ -14,7 +13,8 @@ use Rattle.verdicts.specs.declared.Answer.{Answer}
 use Rattle.verdicts.specs.Answers.{Verdict, passes, stops, answerOf}
 use Rattle.netlist_entries.specs.Netlists.{netAccepted}
 
--- "Refusals: after the netlist's own, 19 COVER, at the first table in the list that is wrong .., or at the number of tables": a right cover passes
+-- "Refusals: after the netlist's own, 19 COVER, at the first table in the list that is wrong .., or at the number of tables": a right cover
+-- passes
 pub data CoverVerdict (cover : List ℕ) : FileOutcome → Verdict → Type 0 where
   own : {f : Fault} → CoverVerdict cover (faulty f) (stops f)
   right : {w : Netlist} → RightCover w cover → CoverVerdict cover (netlist w) passes

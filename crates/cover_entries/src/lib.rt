@@ -16,7 +16,8 @@ ghost use Rattle.cover_entries.specs.Covers.{Judges, CoverChecked};
 
 // A cover of a netlist that was accepted.
 fn judged(h: Header, cells: &[u64], cover: &[u16]) -> Answer
-    requires { ⌜ WellFormed (netlistOf (h .inputs) (h .outputs) (now cells)) × HasOrder (cellsOf (now cells)) × (h .cells ≡ length (now cells)) ⌝ }
+    requires { ⌜ WellFormed (netlistOf (h .inputs) (h .outputs) (now cells)) × HasOrder (cellsOf (now cells))
+        × (h .cells ≡ length (now cells)) ⌝ }
     ensures { λ r. ⌜ Judges (netlist (netlistOf (h .inputs) (h .outputs) (now (cells .entry)))) (now (cover .entry)) r ⌝ }
 {
     let mut tabled = [0u8; limits::MAX_CELLS];

@@ -1,9 +1,8 @@
 -- The comparison at the end of the way is the definition's, both ways.
-use Prim.Native.Nat.{ℕ, _+_, _^_, _<_, _≤_}
+use Prim.Native.Nat.{ℕ, _^_, _<_}
 use mathlib.Core.Path.{_≡_, refl, sym, ap, _∙_, subst}
 use mathlib.Core.Bool.{Bool, true, false, _&&_, true≢false}
 use mathlib.Core.List.{List}
-use mathlib.Core.Logic.{_⊎_}
 use native.Mathlib.Omega.{arith}
 use lib.Dec.{eqb}
 use lib.Bits.{bitAnd, and-le-l}
@@ -13,7 +12,6 @@ use Rattle.number.specs.Counts.{ofCell}
 use Rattle.number.specs.Number.{pick}
 use Rattle.number.specs.declared.CellNo.{CellNo}
 use Rattle.number.specs.declared.SignalNo.{SignalNo}
-use Rattle.number.proofs.Bools.{off}
 use Rattle.tables.specs.declared.Table.{Table}
 use Rattle.tables.specs.Answering.{pins, settings, bit, setting, answers}
 use Rattle.tables.proofs.Bits.{same-bits}
@@ -22,12 +20,11 @@ use Rattle.cells.specs.declared.Cell.{Cell}
 use Rattle.cells.specs.Cells.{cellAt}
 use Rattle.cells.specs.Values.{before, value}
 use Rattle.cells.specs.Needs.{IsCell}
-use Rattle.order.specs.Paths.{Reaches, one, more}
-use Rattle.order.specs.Search.{mark, Decides}
+use Rattle.order.specs.Paths.{Reaches, one}
 use Rattle.run.specs.Held.{SolvesHeld}
 use Rattle.run.proofs.One.{held}
-use Rattle.cuts.specs.Cut.{pinAt, isGate, isSource, isConstant, isPin, Met, operand, onward, RightCut}
-use Rattle.cuts.specs.Cutting.{HasOrder, Alike, Counted, Known, Cutting, Strays}
+use Rattle.cuts.specs.Cut.{pinAt, isSource, isConstant, isPin, Met, operand, onward, RightCut}
+use Rattle.cuts.specs.Cutting.{HasOrder, Alike, Counted, Cutting, Strays}
 use Rattle.covers.specs.Checking.{PinsKnown}
 use Rattle.cuts.proofs.Words.{bit-and}
 use Rattle.cuts.proofs.Pins.{pin-found, found-pin}
@@ -81,7 +78,8 @@ module _ {cells : List Cell} (t : Table) {base : ℕ} {marks values stack : List
         ∙ ap (λ (b : Bool). pick b (h (pinAt cut p)) (value J (S (before cells (pinAt cut p))) v (cellAt cells (pinAt cut p))))
         (found-pin cut p (omega (arith, k .long)))
 
-    same-setting : (h v : CellNo → Bool) (J : SignalNo → Bool) (S : ℕ → Bool) → SolvesHeld (isPin cut) h J S cells v → setting v cut ≡ setting h cut
+    same-setting : (h v : CellNo → Bool) (J : SignalNo → Bool) (S : ℕ → Bool) → SolvesHeld (isPin cut) h J S cells v
+        → setting v cut ≡ setting h cut
     same-setting h v J S s =
         setting-is v cut (setting h cut) (rw (k .long) (small cut (k .long) h))
         (λ p hp. at-pin h v J S s p (rw (k .long) at hp) ∙ sym (setting-bit h cut p hp))
@@ -93,7 +91,8 @@ module _ {cells : List Cell} (t : Table) {base : ℕ} {marks values stack : List
         (λ p q hp hq e.
         setting-bit h cut p (omega (arith, k .long)) ∙ ap h e ∙ sym (setting-bit h cut q (omega (arith, k .long))))
 
-    tells : (h v : CellNo → Bool) (J : SignalNo → Bool) (S : ℕ → Bool) → SolvesHeld (isPin cut) h J S cells v → bit word (setting h cut) ≡ v (t .cell)
+    tells : (h v : CellNo → Bool) (J : SignalNo → Bool) (S : ℕ → Bool) → SolvesHeld (isPin cut) h J S cells v
+        → bit word (setting h cut) ≡ v (t .cell)
     tells h v J S s = k .tells (t .cell) (omega (arith, root-known k no-own)) h v J S s
 
     abbrev test : Bool
@@ -115,7 +114,8 @@ module _ {cells : List Cell} (t : Table) {base : ℕ} {marks values stack : List
               ap (bit (t .truth)) (same-setting h v J S s) ∙ sym alike ∙ tells h v J S s;
         }
       where
-        ends : (y : CellNo) → Met cells (t .pins) (t .cell) y → isSource (cellAt cells y) ≡ true → (b : Bool) → isPin (t .pins) y ≡ b → isPin (t .pins) y ≡ true
+        ends : (y : CellNo) → Met cells (t .pins) (t .cell) y → isSource (cellAt cells y) ≡ true → (b : Bool) → isPin (t .pins) y ≡ b
+            → isPin (t .pins) y ≡ true
         ends y m source true f = f
         ends y m source false f = absurd (true≢false (sym source ∙ k .closed y (met-known k no-own m) f))
 
@@ -129,7 +129,8 @@ module _ {cells : List Cell} (t : Table) {base : ℕ} {marks values stack : List
         below : (w : ℕ) → w < 2 ^ settings → bitAnd w counts < 2 ^ settings
         below w h = omega (arith, and-le-l w counts)
 
-        at : (b : ℕ) → b < settings → (c : Bool) → bit counts b ≡ c → bit (bitAnd (getD values (ofCell (t .cell)) 0) counts) b ≡ bit (bitAnd (t .truth) counts) b
+        at : (b : ℕ) → b < settings → (c : Bool) → bit counts b ≡ c
+            → bit (bitAnd (getD values (ofCell (t .cell)) 0) counts) b ≡ bit (bitAnd (t .truth) counts) b
         at b h true on =
             let w : ℕ = getD values (ofCell (t .cell)) 0 in
             let v₀ : CellNo → Bool = valueIn (t .pins) b in
@@ -140,7 +141,8 @@ module _ {cells : List Cell} (t : Table) {base : ℕ} {marks values stack : List
             let v = one .values in
             let known-word : bit w b ≡ v (t .cell) = ap (bit w) (sym is) ∙ tells v₀ v (λ s. false) (λ i. false) (one .solves) in
             let truth-is : bit (t .truth) b ≡ v (t .cell) =
-            ap (bit (t .truth)) (sym (same-setting v₀ v (λ s. false) (λ i. false) (one .solves) ∙ is)) ∙ right .equal v₀ v (λ s. false) (λ i. false) (one .solves) in
+            ap (bit (t .truth)) (sym (same-setting v₀ v (λ s. false) (λ i. false) (one .solves) ∙ is)) ∙ right .equal v₀ v (λ s. false)
+            (λ i. false) (one .solves) in
             bit-and w counts b
             ∙ masked (bit w b) (bit counts b) on
             ∙ known-word

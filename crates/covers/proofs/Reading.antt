@@ -1,7 +1,7 @@
 -- Reading a cover's tables, and listing their cells.
-use Prim.Native.Nat.{ℕ, _+_, _*_, _<_, _≤_}
+use Prim.Native.Nat.{ℕ, _+_, _<_, _≤_}
 use mathlib.Core.Path.{_≡_, refl, sym, ap, _∙_, subst⁻¹}
-use mathlib.Core.List.{List, map}
+use mathlib.Core.List.{List}
 use native.Mathlib.Numerals.{add-one}
 use native.Mathlib.Omega.{arith}
 use native.Mathlib.Decide.{ℕ-discrete}
@@ -13,9 +13,10 @@ use Rattle.tables.specs.Answering.{pins}
 use Rattle.tables.specs.Orders.{from}
 use Rattle.tables.proofs.Tabulated.{tabulated, length-from}
 use Rattle.order.specs.Search.{mark, IsBlank}
-use Rattle.order.proofs.Columns.{same, mark-same, mark-other}
+use Rattle.order.proofs.Columns.{mark-same}
 use Rattle.cuts.specs.Cut.{pinAt}
-use Rattle.covers.specs.Covers.{size, pinsFrom, tableAt}
+use Rattle.cuts.proofs.Ways.{marked}
+use Rattle.covers.specs.Covers.{pinsFrom, tableAt}
 use Rattle.covers.specs.Checking.{Tabled}
 
 -- new has the first q pins of the table whose numbers begin at `at`
@@ -58,16 +59,6 @@ none-listed cover tabled blank =
       passed = λ j h. absurd (omega arith);
     }
 
--- The mark of a cell after a store.
-marked : (P : CellNo → ℕ → Type 0) (marks : List ℕ) (x : CellNo) (m : ℕ) → ofCell x < length marks → P x m
-    → ((y : CellNo) → (y ≡ x → ⊥) → P y (mark marks y)) → (y : CellNo) → P y (mark (set marks (ofCell x) m) y)
-marked P marks x m inside here there y = go (same y x)
-  where
-    go : Dec (y ≡ x) → P y (mark (set marks (ofCell x) m) y)
-    go (yes e) =
-        subst⁻¹ (λ (z : CellNo). P z (mark (set marks (ofCell x) m) z)) e (subst⁻¹ (P x) (mark-same marks x m inside) here)
-    go (no n) = subst⁻¹ (P y) (mark-other marks x y m n) (there y n)
-
 -- One table more is listed, whose cell is in the column, or is not.
 module _ {cover tabled : List ℕ} {n : ℕ} (t : Tabled cover n 0 tabled) where
   abbrev x : CellNo
@@ -79,14 +70,17 @@ module _ {cover tabled : List ℕ} {n : ℕ} (t : Tabled cover n 0 tabled) where
         has = marked (λ y m. 0 < m → (j : ℕ) × (j < n + 1) × (tableAt cover j .cell ≡ y)) tabled x 1 inside (λ h. (n, omega arith, refl))
             (λ y d h. let w = t .has y h in (w .0, omega (arith, w .1), w .2));
         all = λ j h low. all j h (rw (length-set tabled (ofCell x) 1) at low) (ℕ-discrete j n);
-        earlier = marked (λ y m. 1 < m → (j : ℕ) × (j < 0) × (tableAt cover j .cell ≡ y)) tabled x 1 inside (λ h. absurd (omega arith)) (λ y d. t .earlier y);
+        earlier =
+            marked (λ y m. 1 < m → (j : ℕ) × (j < 0) × (tableAt cover j .cell ≡ y)) tabled x 1 inside (λ h. absurd (omega arith))
+            (λ y d. t .earlier y);
         passed = λ j h. absurd (omega arith);
       }
     where
       on : (y : CellNo) → 0 < mark tabled y → 0 < mark (set tabled (ofCell x) 1) y
       on = marked (λ y m. 0 < mark tabled y → 0 < m) tabled x 1 inside (λ h. omega arith) (λ y d h. h)
 
-      all : (j : ℕ) → j < n + 1 → ofCell (tableAt cover j .cell) < length tabled → Dec (j ≡ n) → 0 < mark (set tabled (ofCell x) 1) (tableAt cover j .cell)
+      all : (j : ℕ) → j < n + 1 → ofCell (tableAt cover j .cell) < length tabled → Dec (j ≡ n)
+          → 0 < mark (set tabled (ofCell x) 1) (tableAt cover j .cell)
       all j h low (yes e) =
           subst⁻¹ (λ (i : ℕ). 0 < mark (set tabled (ofCell x) 1) (tableAt cover i .cell)) e (omega (arith, mark-same tabled x 1 inside))
       all j h low (no d) = on (tableAt cover j .cell) (t .all j (omega arith) low)
@@ -109,7 +103,9 @@ pub passed-more : {cover tabled : List ℕ} {n k : ℕ} (t : Tabled cover n k ta
     → Tabled cover n (k + 1) (set tabled (ofCell (tableAt cover k .cell)) 2)
 passed-more {cover} {tabled} {n} {k} t more inside =
     record {
-      has = marked (λ y m. 0 < m → (j : ℕ) × (j < n) × (tableAt cover j .cell ≡ y)) tabled x 2 inside (λ h. (k, more, refl)) (λ y d. t .has y);
+      has =
+          marked (λ y m. 0 < m → (j : ℕ) × (j < n) × (tableAt cover j .cell ≡ y)) tabled x 2 inside (λ h. (k, more, refl))
+          (λ y d. t .has y);
       all = λ j h low. on (tableAt cover j .cell) (t .all j h (rw (length-set tabled (ofCell x) 2) at low));
       earlier = marked (λ y m. 1 < m → (j : ℕ) × (j < k + 1) × (tableAt cover j .cell ≡ y)) tabled x 2 inside (λ h. (k, omega arith, refl))
           (λ y d h. let w = t .earlier y h in (w .0, omega (arith, w .1), w .2));

@@ -1,7 +1,7 @@
 -- One table is judged, and then the cover.
-use Prim.Native.Nat.{ℕ, _+_, _*_, _<_, _≤_}
+use Prim.Native.Nat.{ℕ, _+_, _<_, _≤_}
 use mathlib.Core.Path.{_≡_, refl, sym, ap, _∙_, subst}
-use mathlib.Core.Bool.{Bool, true, false, true≢false, false≢true}
+use mathlib.Core.Bool.{Bool, true, false, false≢true}
 use mathlib.Core.List.{List}
 use mathlib.Core.Logic.{inl, inr}
 use native.Mathlib.Omega.{arith}
@@ -11,7 +11,6 @@ use lib.ListN.{length}
 use borrow.Author.Tests.{ltb-true, ltb-false}
 use Rattle.number.specs.Counts.{ofCell}
 use Rattle.number.specs.declared.CellNo.{CellNo}
-use Rattle.number.proofs.Bools.{off}
 use Rattle.tables.specs.declared.Table.{Table}
 use Rattle.tables.specs.Answering.{pins}
 use Rattle.cells.specs.declared.Cell.{Cell}
@@ -23,7 +22,7 @@ use Rattle.order.specs.Search.{mark, Decides}
 use Rattle.run.proofs.Rank.{past-end}
 use Rattle.cuts.specs.Cut.{pinAt, isGate, isSource, isConstant, RightCut}
 use Rattle.covers.specs.Covers.{tableCount, tableAt, Carried, RightTable, Complete, RightCover, FirstWrong}
-use Rattle.cuts.specs.Cutting.{Known, Ready, AllNew}
+use Rattle.cuts.specs.Cutting.{AllNew}
 use Rattle.covers.specs.Checking.{PinKnown, PinsCarried, Tabled, Says, TableJudged, Found}
 
 -- A gate is a cell, and neither a register, an input nor a constant.
@@ -75,7 +74,8 @@ judged-no f =
     }
 
 module _ {cells : List Cell} {tabled : List ℕ} (t : Table) where
-  pub no-gate : isGate (cellAt cells (t .cell)) ≡ false → (cover : List ℕ) (k : ℕ) → Tabled cover (tableCount cover) k tabled → t ≡ tableAt cover k
+  pub no-gate : isGate (cellAt cells (t .cell)) ≡ false → (cover : List ℕ) (k : ℕ) → Tabled cover (tableCount cover) k tabled
+      → t ≡ tableAt cover k
       → RightTable cells cover k → ⊥
   no-gate other cover k l e right = false≢true (sym other ∙ ap (λ (t : Table). isGate (cellAt cells (t .cell))) e ∙ right .gate)
 
@@ -85,18 +85,22 @@ module _ {cells : List Cell} {tabled : List ℕ} (t : Table) where
       let w = l .earlier (t .cell) twice in
       right .single (w .0) (w .1) (w .2 ∙ ap (λ (t : Table). t .cell) e)
 
-  pub no-pins : Says tabled (PinsCarried cells (t .pins)) false → (cover : List ℕ) (k : ℕ) → Tabled cover (tableCount cover) k tabled → t ≡ tableAt cover k
+  pub no-pins : Says tabled (PinsCarried cells (t .pins)) false → (cover : List ℕ) (k : ℕ) → Tabled cover (tableCount cover) k tabled
+      → t ≡ tableAt cover k
       → RightTable cells cover k → ⊥
   no-pins says cover k l e right =
       says cover k l .fails refl (λ p h. subst (λ (t : Table). Carried cells cover (pinAt (t .pins) p)) (sym e) (right .pins-carried p h))
 
   -- The rest of it is what it cuts out.
   pub judged-cut : {base : ℕ} {marks′ : List ℕ} {r : Bool} → length cells ≤ length tabled → isGate (cellAt cells (t .cell)) ≡ true
-      → mark tabled (t .cell) ≤ 1 → Says tabled (PinsCarried cells (t .pins)) true → Decides (RightCut cells t) r → (r ≡ true → AllNew (base + 2) marks′)
+      → mark tabled (t .cell) ≤ 1 → Says tabled (PinsCarried cells (t .pins)) true → Decides (RightCut cells t) r
+      → (r ≡ true → AllNew (base + 2) marks′)
       → TableJudged cells tabled base t marks′ r
-  judged-cut {base} {marks′} {r} long gate once says d next = record { right = right; is = λ q. gate-cell cells (t .cell) gate; next = next }
+  judged-cut {base} {marks′} {r} long gate once says d next =
+      record { right = right; is = λ q. gate-cell cells (t .cell) gate; next = next }
     where
-      right : (cover : List ℕ) (k : ℕ) → Tabled cover (tableCount cover) k tabled → t ≡ tableAt cover k → Decides (RightTable cells cover k) r
+      right : (cover : List ℕ) (k : ℕ) → Tabled cover (tableCount cover) k tabled → t ≡ tableAt cover k
+          → Decides (RightTable cells cover k) r
       right cover k l e = record { holds = λ q. whole (d .holds q); fails = λ q h. d .fails q (subst (RightCut cells) (sym e) (h .cut)) }
         where
           single : (j : ℕ) → j < k → tableAt cover j .cell ≡ tableAt cover k .cell → ⊥
@@ -122,5 +126,6 @@ pub at-end : {w : Netlist} {cover tabled : List ℕ} {r : ℕ} → Found (w .cel
     → FirstWrong w cover (tableCount cover)
 at-end f h lacks = record { before = λ k l. f .before k (omega arith); here = inr (refl, lacks) }
 
-pub all-right : {w : Netlist} {cover tabled : List ℕ} {r : ℕ} → Found (w .cells) cover tabled r → tableCount cover ≤ r → Complete w cover → RightCover w cover
+pub all-right : {w : Netlist} {cover tabled : List ℕ} {r : ℕ} → Found (w .cells) cover tabled r → tableCount cover ≤ r → Complete w cover
+    → RightCover w cover
 all-right f h c = record { tables = λ k l. f .before k (omega arith); complete = c }

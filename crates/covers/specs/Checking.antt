@@ -3,7 +3,7 @@
 use mathlib.Core.Path.{_≡_}
 use mathlib.Core.Bool.{Bool, true, false}
 use mathlib.Core.List.{List}
-use Prim.Native.Nat.{ℕ, _+_, _-_, _<_, _≤_}
+use Prim.Native.Nat.{ℕ, _+_, _<_, _≤_}
 use lib.ListN.{length}
 use Rattle.number.specs.Counts.{ofCell}
 use Rattle.number.specs.declared.CellNo.{CellNo}
@@ -68,7 +68,8 @@ pub record Judged (cells : List Cell) (tabled marks values stack : List ℕ) : T
 
 -- a table was judged; where it is right the next one may be
 pub record TableJudged (cells : List Cell) (tabled : List ℕ) (base : ℕ) (t : Table) (marks′ : List ℕ) (r : Bool) : Type 0 where
-  pub right : (cover : List ℕ) (k : ℕ) → Tabled cover (tableCount cover) k tabled → t ≡ tableAt cover k → Decides (RightTable cells cover k) r
+  pub right : (cover : List ℕ) (k : ℕ) → Tabled cover (tableCount cover) k tabled → t ≡ tableAt cover k
+      → Decides (RightTable cells cover k) r
   pub is : r ≡ true → IsCell cells (t .cell)
   pub next : r ≡ true → AllNew (base + 2) marks′
 

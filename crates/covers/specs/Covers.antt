@@ -1,5 +1,6 @@
--- "Check our covers. Our packer proposes tables of four pins with a 16-bit truth table each, one per chosen cell. Pin p weighs 2 to the p, and the weighted pin values
--- name the truth-table bit." What a table answers is `answers` (tables); here is which covers are right, and where the first fault of another is.
+-- "Check our covers. Our packer proposes tables of four pins with a 16-bit truth table each, one per chosen cell. Pin p weighs 2 to the p,
+-- and the weighted pin values name the truth-table bit." What a table answers is `answers` (tables); here is which covers are right, and
+-- where the first fault of another is.
 use mathlib.Core.Path.{_≡_}
 use mathlib.Core.Bool.{true}
 use mathlib.Core.List.{List, map}
@@ -19,7 +20,7 @@ use Rattle.cells.specs.Cells.{cellAt, signalCell}
 use Rattle.cells.specs.Needs.{IsCell}
 use Rattle.cells.specs.Netlist.{Netlist}
 use Rattle.run.specs.Words.{isOutput}
-use Rattle.cuts.specs.Cut.{RightCut, isGate, operand, pinAt}
+use Rattle.cuts.specs.Cut.{RightCut, isGate, pinAt}
 
 -- A cover is a list of numbers, so many a table: its cell, its pins, its truth table.
 abbrev pub size : ℕ

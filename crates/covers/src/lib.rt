@@ -19,13 +19,14 @@ ghost use Rattle.cuts.specs.Cut as Cut;
 ghost use Rattle.cuts.specs.Cut.{pinAt, RightCut};
 ghost use Rattle.covers.specs.Covers.{size, tableCount, pinsFrom, tableAt, Carried, Complete};
 ghost use Rattle.cuts.specs.Cutting.{HasOrder, Lent, AllNew, Roomy};
-ghost use Rattle.covers.specs.Checking.{Tabled, Says, PinsCarried, PinKnown, PinsKnown, OutputsCarried, OperandCarried, OperandsCarried};
-ghost use Rattle.covers.specs.Checking.{Judged, TableJudged, Found, Answers};
+ghost use Rattle.covers.specs.Checking.{Tabled, Says, PinsCarried, PinKnown, PinsKnown, OutputsCarried, OperandCarried};
+ghost use Rattle.covers.specs.Checking.{OperandsCarried, Judged, TableJudged, Found, Answers};
 
 // The numbers of a table: its cell, its pins, its truth table.
 const SIZE: usize = Table::PINS + 2;
 
-// The answer: the cover is right, or this is the number of its first wrong table; the number of tables, where none is and an output or a register's operand lacks one.
+// The answer: the cover is right, or this is the number of its first wrong table; the number of tables, where none is and an output or a
+// register's operand lacks one.
 pub enum Covering {
     Right,
     Wrong(usize),
@@ -53,6 +54,13 @@ fn is_constant(c: Cell) -> bool
         Cell::Gate(_, _, _) => false,
         Cell::Register(_) => false,
     }
+}
+
+// How many whole tables there are.
+fn table_count(cover: &[u16]) -> usize
+    ensures { λ r. ⌜ r ≡ tableCount (now (cover .entry)) ⌝ }
+{
+    cover.len() / SIZE
 }
 
 // The pins of a table that has its numbers from `at` on.
@@ -87,7 +95,7 @@ fn list_tables(cover: &[u16], tabled: &mut [u8])
     requires { ⌜ IsBlank (now tabled) ⌝ }
     ensures { λ _. ⌜ Tabled (now (cover .entry)) (tableCount (now (cover .entry))) 0 (now (tabled .exit)) ⌝ }
 {
-    let n = cover.len() / SIZE;
+    let n = table_count(cover);
     let mut k: usize = 0;
     while k < n {
         let x = cover[k * SIZE] as usize;
@@ -164,8 +172,9 @@ fn cut_right(
     base: u64,
     t: Table,
 ) -> bool
-    requires { ⌜ Roomy base × Closed (cellsOf (now cells)) × HasOrder (cellsOf (now cells)) × Lent (cellsOf (now cells)) (now marks) (now values) (now stack)
-        × AllNew base (now marks) × (Cut.isGate (cellAt (cellsOf (now cells)) (t .cell)) ≡ true)
+    requires { ⌜ Roomy base × Closed (cellsOf (now cells)) × HasOrder (cellsOf (now cells))
+        × Lent (cellsOf (now cells)) (now marks) (now values) (now stack) × AllNew base (now marks)
+        × (Cut.isGate (cellAt (cellsOf (now cells)) (t .cell)) ≡ true)
         × ((p : ℕ) → p < pins → IsCell (cellsOf (now cells)) (pinAt (t .pins) p)) ⌝ }
     ensures { λ r. ⌜ Decides (RightCut (cellsOf (now (cells .entry))) t) r × (r ≡ true → AllNew (base + 2) (now (marks .exit))) ⌝ }
 {
@@ -226,7 +235,7 @@ fn first_wrong(
         × Tabled (now cover) (tableCount (now cover)) 0 (now tabled) ⌝ }
     ensures { λ r. ⌜ Found (cellsOf (now (cells .entry))) (now (cover .entry)) (now (tabled .exit)) r ⌝ }
 {
-    let n = cover.len() / SIZE;
+    let n = table_count(cover);
     let mut k: usize = 0;
     while k < n {
         let t = table_at(cover, k);
@@ -310,7 +319,7 @@ pub fn check(
         × IsBlank (now tabled) × IsBlank (now marks) ⌝ }
     ensures { λ r. ⌜ Answers (netlistOf i o (now (cells .entry))) (now (cover .entry)) r ⌝ }
 {
-    let n = cover.len() / SIZE;
+    let n = table_count(cover);
     list_tables(cover, tabled);
     let k = first_wrong(cells, cover, tabled, marks, values, stack);
     if k < n {

@@ -1,4 +1,5 @@
--- An order of the cells: what a cell reaches stands before it, so none reaches itself, and a way down has at most as many cells as there are.
+-- An order of the cells: what a cell reaches stands before it, so none reaches itself, and a way down has at most as many cells as there
+-- are.
 use Prim.Native.Nat.{ℕ, zero, suc, _+_, _<_}
 use mathlib.Core.Path.{_≡_, sym, subst, _∙_}
 use mathlib.Core.List.{List}
@@ -13,7 +14,8 @@ module _ {cells : List Cell} {order : List ℕ} (o : Ordered cells order) where
   step : {x y : CellNo} → Needs cells x y → (p : ℕ) → p < length cells → placed order p ≡ x → (q : ℕ) × (q < p) × (placed order q ≡ y)
   step {x} {y} n p h e = o .after p y h (subst (λ (z : CellNo). Needs cells z y) (sym e) n)
 
-  pub lower : {x y : CellNo} → Reaches cells x y → (p : ℕ) → p < length cells → placed order p ≡ x → (q : ℕ) × (q < p) × (placed order q ≡ y)
+  pub lower : {x y : CellNo} → Reaches cells x y → (p : ℕ) → p < length cells → placed order p ≡ x
+      → (q : ℕ) × (q < p) × (placed order q ≡ y)
   lower (one n) p h e = step n p h e
   lower (more n way) p h e =
       let a = step n p h e in

@@ -1,6 +1,6 @@
 -- The pins are set one after the other: what is marked, the words of their nets, and the settings that count.
-use Prim.Native.Nat.{ℕ, _+_, _<_, _≤_}
-use mathlib.Core.Path.{_≡_, refl, sym, ap, _∙_, subst, subst⁻¹}
+use Prim.Native.Nat.{ℕ, _+_, _<_}
+use mathlib.Core.Path.{_≡_, refl, sym, ap, _∙_, subst⁻¹}
 use mathlib.Core.Bool.{Bool, true, _&&_}
 use mathlib.Core.List.{List}
 use native.Mathlib.Omega.{arith}
@@ -11,18 +11,16 @@ use lib.Seq.{getD-set-same, getD-set-other}
 use Rattle.number.specs.Counts.{cellNo, ofCell}
 use Rattle.number.specs.Number.{pick}
 use Rattle.number.specs.declared.CellNo.{CellNo}
-use Rattle.number.specs.declared.SignalNo.{SignalNo}
 use Rattle.number.proofs.Bools.{and-left, and-right, and-both}
-use Rattle.tables.specs.Answering.{pins, settings, bit, setting}
+use Rattle.tables.specs.Answering.{pins, bit, setting}
 use Rattle.tables.proofs.Settings.{setting-bit}
 use Rattle.cells.specs.declared.Cell.{Cell}
 use Rattle.cells.specs.Cells.{cellAt}
 use Rattle.cells.specs.Values.{before, value}
 use Rattle.order.specs.Search.{mark}
 use Rattle.order.proofs.Columns.{same, mark-same, mark-other}
-use Rattle.run.specs.Held.{SolvesHeld}
 use Rattle.cuts.specs.Cut.{pinAt, isPin}
-use Rattle.cuts.specs.Cutting.{PinWord, AlikeIn, AllNew, Tells, Alike, Counted, Pinned, PinSet, again, first, Ready}
+use Rattle.cuts.specs.Cutting.{PinWord, AllNew, Tells, Alike, Pinned, PinSet, again, first, Ready}
 use Rattle.cuts.proofs.Words.{bit-and, ones}
 use Rattle.cuts.proofs.Pins.{pin-found, found-pin}
 use Rattle.cuts.proofs.Visits.{small}
@@ -36,7 +34,8 @@ pinned-none cut base marks values new =
     }
 
 -- one pin more
-alike-more : (cut : List CellNo) (p b : ℕ) → Alike cut p b → ((j : ℕ) → j < p → pinAt cut j ≡ pinAt cut p → bit b j ≡ bit b p) → Alike cut (p + 1) b
+alike-more : (cut : List CellNo) (p b : ℕ) → Alike cut p b → ((j : ℕ) → j < p → pinAt cut j ≡ pinAt cut p → bit b j ≡ bit b p)
+    → Alike cut (p + 1) b
 alike-more cut p b old last i j hi hj e = go (ℕ-discrete i p) (ℕ-discrete j p)
   where
     go : Dec (i ≡ p) → Dec (j ≡ p) → bit b i ≡ bit b j
@@ -57,7 +56,8 @@ both-on a b k e =
 on-both : (a b k : ℕ) → bit a k ≡ true → bit b k ≡ true → bit (bitAnd a b) k ≡ true
 on-both a b k x y = bit-and a b k ∙ and-both (bit a k) (bit b k) x y
 
-pub pinned-more : {cut : List CellNo} {base : ℕ} {marks values marks′ values′ : List ℕ} {p counts w r : ℕ} → Pinned cut base marks values p counts
+pub pinned-more : {cut : List CellNo} {base : ℕ} {marks values marks′ values′ : List ℕ} {p counts w r : ℕ}
+    → Pinned cut base marks values p counts
     → ofCell (pinAt cut p) < length marks → ofCell (pinAt cut p) < length values → PinWord p w
     → PinSet base marks values (pinAt cut p) w marks′ values′ r → Pinned cut base marks′ values′ (p + 1) (bitAnd counts r)
 pinned-more {cut} {base} {marks} {values} {marks′} {values′} {p} {counts} {w} {r} old in-marks in-values word (again h alike) =
@@ -68,7 +68,8 @@ pinned-more {cut} {base} {marks} {values} {marks′} {values′} {p} {counts} {w
         on = λ b hb e.
             let f = both-on counts r b e in
             alike-more cut p b (old .counted .on b hb (f .0))
-            (λ j hj e′. old .counted .on b hb (f .0) j q₀ hj low (e′ ∙ sym is) ∙ (sym (w₀ .bits b hb) ∙ alike .on b hb (f .1) ∙ word .bits b hb));
+            (λ j hj e′. old .counted .on b hb (f .0) j q₀ hj low (e′ ∙ sym is) ∙
+            (sym (w₀ .bits b hb) ∙ alike .on b hb (f .1) ∙ word .bits b hb));
         all = λ b hb a.
             on-both counts r b (old .counted .all b hb (alike-less cut p b a))
             (alike .all b hb (w₀ .bits b hb ∙ a q₀ p (omega (arith, low)) (omega arith) is ∙ sym (word .bits b hb)));
@@ -95,7 +96,9 @@ pinned-more {cut} {base} {marks} {values} {marks′} {values′} {p} {counts} {w
       each = λ q hq. each q hq (ℕ-discrete q p);
       only = λ y hy. only y hy (same y x);
       counted = record {
-        on = λ b hb e. let f = both-on counts r b e in alike-more cut p b (old .counted .on b hb (f .0)) (λ j hj e′. absurd (other j hj e′));
+        on =
+            λ b hb e. let f = both-on counts r b e in alike-more cut p b (old .counted .on b hb (f .0))
+            (λ j hj e′. absurd (other j hj e′));
         all = λ b hb a. on-both counts r b (old .counted .all b hb (alike-less cut p b a)) (all b hb);
       };
     }
@@ -108,7 +111,8 @@ pinned-more {cut} {base} {marks} {values} {marks′} {values′} {p} {counts} {w
 
     each : (q : ℕ) → q < p + 1 → Dec (q ≡ p) → mark (set marks (ofCell (pinAt cut p)) (base + 1)) (pinAt cut q) ≡ base + 1
     each q hq (yes e) =
-        ap (λ (i : ℕ). mark (set marks (ofCell (pinAt cut p)) (base + 1)) (pinAt cut i)) e ∙ mark-same marks (pinAt cut p) (base + 1) in-marks
+        ap (λ (i : ℕ). mark (set marks (ofCell (pinAt cut p)) (base + 1)) (pinAt cut i)) e ∙ mark-same marks (pinAt cut p) (base + 1)
+        in-marks
     each q hq (no n) = mark-other marks (pinAt cut p) (pinAt cut q) (base + 1) (other q (omega arith)) ∙ old .each q (omega arith)
 
     Is : CellNo → Type 0

@@ -1,23 +1,21 @@
 -- A visit to the cell on top: what it leaves, for each kind of cell.
-use Prim.Native.Nat.{ℕ, suc, _+_, _-_, _^_, _<_, _≤_}
-use mathlib.Core.Path.{_≡_, refl, sym, ap, _∙_, subst, subst⁻¹}
+use Prim.Native.Nat.{ℕ, _+_, _-_, _<_, _≤_}
+use mathlib.Core.Path.{_≡_, refl, sym, ap, _∙_, subst⁻¹}
 use mathlib.Core.Bool.{Bool, true, false}
 use mathlib.Core.List.{List}
-use mathlib.Core.Logic.{inl, inr, ⊎-elim}
+use mathlib.Core.Logic.{⊎-elim}
 use native.Mathlib.Omega.{arith}
 use lib.ListN.{length, getD, set}
 use Rattle.number.specs.Counts.{ofCell}
 use Rattle.number.specs.Number.{pick}
 use Rattle.number.specs.declared.CellNo.{CellNo}
 use Rattle.number.specs.declared.SignalNo.{SignalNo}
-use Rattle.number.proofs.Bools.{off}
 use Rattle.tables.specs.Answering.{pins, settings, bit, setting}
 use Rattle.tables.proofs.Bits.{bit-none}
 use Rattle.tables.proofs.Settings.{setting-small}
 use Rattle.cells.specs.declared.Gate as gate
 use Rattle.cells.specs.declared.Cell.{Cell}
 use Rattle.cells.specs.declared.Cell.the-variants.{Low, High, Gate}
-use Rattle.cells.specs.declared.Pins.the-variants.{None, Two}
 use Rattle.cells.specs.Cells.{truth, cellAt}
 use Rattle.cells.specs.Words.{cellIn, cellsOf}
 use Rattle.cells.specs.Values.{before, value}
@@ -40,7 +38,8 @@ pub small : (cut : List CellNo) → length cut ≡ pins → (h : CellNo → Bool
 small cut long h = rw long at (setting-small h cut)
 
 -- the cell that was read
-pub read-as : (words : List ℕ) {x y : CellNo} {r c : Cell} → x ≡ y → r ≡ cellIn (getD words (ofCell x) 0) → r ≡ c → cellAt (cellsOf words) y ≡ c
+pub read-as : (words : List ℕ) {x y : CellNo} {r c : Cell} → x ≡ y → r ≡ cellIn (getD words (ofCell x) 0) → r ≡ c
+    → cellAt (cellsOf words) y ≡ c
 read-as words {x} {y} e f g = ap (cellAt (cellsOf words)) (sym e) ∙ cell-at-word words x ∙ sym f ∙ g
 
 -- what a step leaves
@@ -53,7 +52,8 @@ pub strayed : {cells : List Cell} {cut : List CellNo} {c : CellNo} {base : ℕ} 
 strayed (stray s) = s
 
 -- An operand y is met whose word is there.
-pub record MetOne (cells : List Cell) (cut : List CellNo) (c : CellNo) (base : ℕ) (marks marks′ values stack : List ℕ) (top : ℕ) (y : CellNo) : Type 0 where
+pub record MetOne (cells : List Cell) (cut : List CellNo) (c : CellNo) (base : ℕ) (marks marks′ values stack : List ℕ) (top : ℕ)
+    (y : CellNo) : Type 0 where
   pub cutting : Cutting cells cut c base marks′ values stack top
   pub few : unknown cells base marks′ ≤ unknown cells base marks
   pub knows : Known base marks′ y
@@ -111,7 +111,8 @@ module _ {cells : List Cell} {cut : List CellNo} {c : CellNo} {base : ℕ} {mark
   value-of : (h v : CellNo → Bool) (J : SignalNo → Bool) (S : ℕ → Bool) → SolvesHeld (isPin cut) h J S cells v
       → v last ≡ value J (S (before cells last)) v (cellAt cells last)
   unfolding pick
-  value-of h v J S solves = solves last ∙ ap (λ (b : Bool). pick b (h last) (value J (S (before cells last)) v (cellAt cells last))) (no-pin k last last-new)
+  value-of h v J S solves =
+      solves last ∙ ap (λ (b : Bool). pick b (h last) (value J (S (before cells last)) v (cellAt cells last))) (no-pin k last last-new)
 
   -- its word becomes known
   knows : (w : ℕ) → Tells cells cut w last → isSource (cellAt cells last) ≡ false → ((y : CellNo) → Needs cells last y → Known base marks y)
@@ -123,7 +124,8 @@ module _ {cells : List Cell} {cut : List CellNo} {c : CellNo} {base : ℕ} {mark
             (omega (arith, one-known cells base marks last last-cell (k .lent .wide) (omega (arith, last-new))));
       }
 
-  pub visits-low : {x : CellNo} {marks′ values′ : List ℕ} → x ≡ last → marks′ ≡ set marks (ofCell x) (base + 2) → values′ ≡ set values (ofCell x) 0
+  pub visits-low : {x : CellNo} {marks′ values′ : List ℕ} → x ≡ last → marks′ ≡ set marks (ofCell x) (base + 2)
+      → values′ ≡ set values (ofCell x) 0
       → cellAt cells last ≡ Low → Went cells cut c base marks marks′ values′ stack top (top - 1)
   visits-low is p q e =
       rw (p, q, is)
@@ -143,7 +145,9 @@ module _ {cells : List Cell} {cut : List CellNo} {c : CellNo} {base : ℕ} {mark
   strays e =
       record {
         at = last;
-        met = ⊎-elim (λ q. absurd (differ (sym e ∙ ap (λ (x : CellNo). isSource (cellAt cells x)) q ∙ k .own))) (λ m. m) (k .ways (top - 1) low);
+        met =
+            ⊎-elim (λ q. absurd (differ (sym e ∙ ap (λ (x : CellNo). isSource (cellAt cells x)) q ∙ k .own))) (λ m. m)
+            (k .ways (top - 1) low);
         source = e;
         no-pin = no-pin k last last-new;
       }
@@ -172,7 +176,8 @@ module _ {cells : List Cell} {cut : List CellNo} {c : CellNo} {base : ℕ} {mark
     inside = omega (arith, deep-enough, k .lent .deep)
 
     -- its first operand is new
-    pub goes-first : {marks′ : List ℕ} → Meets base marks a marks′ false → Went cells cut c base marks marks′ values (set stack top (ofCell a)) top (top + 1)
+    pub goes-first : {marks′ : List ℕ} → Meets base marks a marks′ false
+        → Went cells cut c base marks marks′ values (set stack top (ofCell a)) top (top + 1)
     goes-first m =
         let n = met-new m in
         subst⁻¹ (λ (l : List ℕ). Went cells cut c base marks l values (set stack top (ofCell a)) top (top + 1)) (n .1)
@@ -202,7 +207,8 @@ module _ {cells : List Cell} {cut : List CellNo} {c : CellNo} {base : ℕ} {mark
 
         -- the word that the gate makes of those of its operands
         tells-gate : (w : ℕ)
-            → ((i : ℕ) → i < settings → bit w i ≡ truth g (bit (getD values (ofCell a) 0) i) (bit (getD values (ofCell b) 0) i)) → Tells cells cut w last
+            → ((i : ℕ) → i < settings → bit w i ≡ truth g (bit (getD values (ofCell a) 0) i) (bit (getD values (ofCell b) 0) i))
+            → Tells cells cut w last
         tells-gate w makes h v J S s =
             let j : ℕ = setting h cut in
             let knows-a = both-met .still a (first-met .knows) in
@@ -224,5 +230,7 @@ module _ {cells : List Cell} {cut : List CellNo} {c : CellNo} {base : ℕ} {mark
             rw (p, q, is)
             (record {
               cutting = settles k₂ some o w (tells-gate w makes) (ap isSource e) all;
-              less = left-known cells base marks (set marks₂ (ofCell last) (base + 2)) top (omega (arith, one, first-met .few, both-met .few));
+              less =
+                  left-known cells base marks (set marks₂ (ofCell last) (base + 2)) top
+                  (omega (arith, one, first-met .few, both-met .few));
             })

@@ -1,8 +1,8 @@
--- The way down from a table's cell, a law for each thing that it does: it begins, an operand is met, a new one comes on top, the word of the cell on top becomes known,
--- and it ends with nothing on the stack. Then what is known is what is met.
+-- The way down from a table's cell, a law for each thing that it does: it begins, an operand is met, a new one comes on top, the word of
+-- the cell on top becomes known, and it ends with nothing on the stack. Then what is known is what is met.
 use Prim.Native.Nat.{ℕ, zero, suc, _+_, _-_, _*_, _<_, _≤_}
 use mathlib.Core.Path.{_≡_, refl, sym, ap, _∙_, subst, subst⁻¹}
-use mathlib.Core.Bool.{Bool, true, false, true≢false}
+use mathlib.Core.Bool.{true, false, true≢false}
 use mathlib.Core.List.{List, [], _∷_, map}
 use mathlib.Core.Logic.{_⊎_, inl, inr, ⊎-elim}
 use native.Mathlib.Omega.{arith}
@@ -20,7 +20,7 @@ use Rattle.order.specs.Paths.{Reaches, one, more, placed}
 use Rattle.order.specs.Search.{mark, zeros}
 use Rattle.order.proofs.Columns.{same, mark-same, mark-other, placed-same, placed-other, zeros-new, zeros-again}
 use Rattle.cuts.specs.Cut.{isSource, isPin, Met, operand, onward}
-use Rattle.cuts.specs.Cutting.{HasOrder, Lent, AllNew, Tells, Known, Ready, unknown, Cutting, left}
+use Rattle.cuts.specs.Cutting.{HasOrder, Lent, Tells, Known, Ready, unknown, Cutting, left}
 use Rattle.cuts.proofs.Depth.{lower, no-cycle, deep}
 
 pub join : {cells : List Cell} {x y z : CellNo} → Reaches cells x y → Needs cells y z → Reaches cells x z
@@ -28,7 +28,7 @@ join (one h) needs = more h (one needs)
 join (more h way) needs = more h (join way needs)
 
 -- A mark after a store: that of x, or as it was.
-marked : (P : CellNo → ℕ → Type 0) (marks : List ℕ) (x : CellNo) (m : ℕ) → ofCell x < length marks → P x m
+pub marked : (P : CellNo → ℕ → Type 0) (marks : List ℕ) (x : CellNo) (m : ℕ) → ofCell x < length marks → P x m
     → ((y : CellNo) → (y ≡ x → ⊥) → P y (mark marks y)) → (y : CellNo) → P y (mark (set marks (ofCell x) m) y)
 marked P marks x m inside here there y = go (same y x)
   where
@@ -100,12 +100,14 @@ module _ {cells : List Cell} {cut : List CellNo} {c : CellNo} {base : ℕ} {mark
   -- what a cell on the stack needs is met
   pub met-below : (j : ℕ) (y : CellNo) → j < top → Needs cells (placed stack j) y → Met cells cut c y
   met-below j y h n =
-      ⊎-elim (λ e. operand (subst (λ (z : CellNo). Needs cells z y) e n)) (λ m. onward m (no-pin (placed stack j) (k .fresh j h)) n) (k .ways j h)
+      ⊎-elim (λ e. operand (subst (λ (z : CellNo). Needs cells z y) e n)) (λ m. onward m (no-pin (placed stack j) (k .fresh j h)) n)
+      (k .ways j h)
 
   in-marks : {x : CellNo} → IsCell cells x → ofCell x < length marks
   in-marks is = omega (arith, k .lent .wide)
 
-  lent-after : {marks′ values′ stack′ : List ℕ} → length marks′ ≡ length marks → length values′ ≡ length values → length stack′ ≡ length stack
+  lent-after : {marks′ values′ stack′ : List ℕ} → length marks′ ≡ length marks → length values′ ≡ length values
+      → length stack′ ≡ length stack
       → Lent cells marks′ values′ stack′
   lent-after m v s =
       record {
@@ -128,7 +130,8 @@ module _ {cells : List Cell} {cut : List CellNo} {c : CellNo} {base : ℕ} {mark
         go (yes e) = absurd (true≢false (sym (k .waits a e) ∙ other))
         go (no n) = omega arith
 
-    each : (P : CellNo → ℕ → Type 0) → P a (base + 2) → ((y : CellNo) → (y ≡ a → ⊥) → P y (mark marks y)) → (y : CellNo) → P y (mark after y)
+    each : (P : CellNo → ℕ → Type 0) → P a (base + 2) → ((y : CellNo) → (y ≡ a → ⊥) → P y (mark marks y)) → (y : CellNo)
+        → P y (mark after y)
     each P = marked P marks a (base + 2) (in-marks is)
 
     still : (y : CellNo) → Known base marks y → Known base after y
@@ -186,7 +189,8 @@ module _ {cells : List Cell} {cut : List CellNo} {c : CellNo} {base : ℕ} {mark
       rest-is : (j : ℕ) → j < top → placed higher j ≡ placed stack j
       rest-is j h = placed-other stack j top a (λ e. omega arith)
 
-      every : (P : ℕ → CellNo → Type 0) → P top a → ((j : ℕ) → j < top → P j (placed stack j)) → (j : ℕ) → j < top + 1 → P j (placed higher j)
+      every : (P : ℕ → CellNo → Type 0) → P top a → ((j : ℕ) → j < top → P j (placed stack j)) → (j : ℕ) → j < top + 1
+          → P j (placed higher j)
       every P here before j h = go (ℕ-discrete j top)
         where
           go : Dec (j ≡ top) → P j (placed higher j)
@@ -238,7 +242,8 @@ module _ {cells : List Cell} {cut : List CellNo} {c : CellNo} {base : ℕ} {mark
       is : IsCell cells last
       is = k .cell (top - 1) low
 
-      each-one : (P : CellNo → ℕ → Type 0) → P last (base + 2) → ((y : CellNo) → (y ≡ last → ⊥) → P y (mark marks y)) → (y : CellNo) → P y (mark known y)
+      each-one : (P : CellNo → ℕ → Type 0) → P last (base + 2) → ((y : CellNo) → (y ≡ last → ⊥) → P y (mark marks y)) → (y : CellNo)
+          → P y (mark known y)
       each-one P = marked P marks last (base + 2) (in-marks is)
 
       kept : (y : CellNo) → Known base marks y → Known base known y
@@ -270,14 +275,17 @@ module _ {cells : List Cell} {cut : List CellNo} {c : CellNo} {base : ℕ} {mark
             limit = each-one (λ y m. m ≤ base + 2) (omega arith) (λ y n. k .limit y);
             met = each-one (λ y m. base + 1 < m → (y ≡ c) ⊎ Met cells cut c y) (λ h. k .ways (top - 1) low) (λ y n. k .met y);
             closed =
-                each-one (λ y m. base + 1 < m → isPin cut y ≡ false → isSource (cellAt cells y) ≡ false) (λ h e. no-source) (λ y n. k .closed y);
+                each-one (λ y m. base + 1 < m → isPin cut y ≡ false → isSource (cellAt cells y) ≡ false) (λ h e. no-source)
+                (λ y n. k .closed y);
             needs = λ x y.
                 each-one (λ x m. base + 1 < m → isPin cut x ≡ false → Needs cells x y → Known base known y) (λ h e n. kept y (all y n))
                 (λ x d h e n. kept y (k .needs x y h e n)) x;
             tells =
                 each-one (λ y m. base < m → Tells cells cut (getD words (ofCell y) 0) y)
-                (λ h. subst⁻¹ (λ (v : ℕ). Tells cells cut v last) (getD-set-same values (ofCell last) w 0 (omega (arith, is, k .lent .valued))) tells)
-                (λ y n h. subst⁻¹ (λ (v : ℕ). Tells cells cut v y) (getD-set-other values (ofCell last) (ofCell y) w 0 (λ e. n (ap cellNo e))) (k .tells y h));
+                (λ h. subst⁻¹ (λ (v : ℕ). Tells cells cut v last) (getD-set-same values (ofCell last) w 0
+                (omega (arith, is, k .lent .valued))) tells)
+                (λ y n h. subst⁻¹ (λ (v : ℕ). Tells cells cut v y) (getD-set-other values (ofCell last) (ofCell y) w 0
+                (λ e. n (ap cellNo e))) (k .tells y h));
             fresh = λ j h.
                 subst⁻¹ (λ (m : ℕ). m ≤ base) (mark-other marks last (placed stack j) (base + 2) (other j h)) (k .fresh j (omega arith));
             cell = λ j h. k .cell j (omega arith);
@@ -288,7 +296,8 @@ module _ {cells : List Cell} {cut : List CellNo} {c : CellNo} {base : ℕ} {mark
 
 -- The table's cell alone is on the stack.
 pub begins : {cells : List Cell} {cut : List CellNo} {c : CellNo} {base : ℕ} {marks values stack : List ℕ} → Lent cells marks values stack
-    → Ready cells cut base marks values → isSource (cellAt cells c) ≡ false → IsCell cells c → mark marks c ≤ base → Cutting cells cut c base marks values (set stack 0 (ofCell c)) 1
+    → Ready cells cut base marks values → isSource (cellAt cells c) ≡ false → IsCell cells c → mark marks c ≤ base
+    → Cutting cells cut c base marks values (set stack 0 (ofCell c)) 1
 begins {cells} {cut} {c} {base} {marks} {values} {stack} l r own is new =
     record {
       long = r .long;

@@ -1,7 +1,7 @@
 -- The bits of words that have one for each setting.
-use Prim.Native.Nat.{ℕ, zero, suc, _+_, _-_, _*_, _/_, _%_, _^_, _<_}
+use Prim.Native.Nat.{ℕ, zero, suc, _-_, _*_, _/_, _%_, _^_, _<_}
 use mathlib.Core.Path.{_≡_, refl, sym, ap, _∙_}
-use mathlib.Core.Bool.{Bool, true, false, not, _&&_, _||_}
+use mathlib.Core.Bool.{Bool, true, not, _&&_, _||_}
 use mathlib.Core.List.{List, [], _∷_, map}
 use native.Mathlib.Nat.{not-suc-le-zero, pow-succ'}
 use native.Mathlib.Omega.{arith}
@@ -16,7 +16,6 @@ use Rattle.tables.specs.Answering.{pins, settings, bit}
 use Rattle.tables.specs.Orders.{from}
 use Rattle.tables.proofs.Bits.{bit-zero, bit-suc}
 use Rattle.tables.proofs.Tabulated as Tabulated
-use Rattle.cells.specs.declared.Gate.the-variants.{Or, And, Butnot}
 use Rattle.cuts.specs.Cutting.{PinWord, AlikeIn}
 
 pub bit-or : (a b k : ℕ) → bit (bitOr a b) k ≡ (bit a k || bit b k)
@@ -75,7 +74,8 @@ alike-in a b ha hb =
       all = λ k h e. at k h ∙ same-all (bit a k) (bit b k) e;
     }
   where
-    at : (k : ℕ) → k < settings → bit (bitOr (bitAnd a b) (2 ^ settings - 1 - bitOr a b)) k ≡ ((bit a k && bit b k) || not (bit a k || bit b k))
+    at : (k : ℕ) → k < settings
+        → bit (bitOr (bitAnd a b) (2 ^ settings - 1 - bitOr a b)) k ≡ ((bit a k && bit b k) || not (bit a k || bit b k))
     at k h =
         bit-or (bitAnd a b) (2 ^ settings - 1 - bitOr a b) k
         ∙ ap (λ (x : Bool). x || bit (2 ^ settings - 1 - bitOr a b) k) (bit-and a b k)

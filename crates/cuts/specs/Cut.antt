@@ -48,8 +48,8 @@ unfoldable pub isPin : List CellNo → CellNo → Bool
 isPin [] x = false
 isPin (p ∷ ps) x = eqb (ofCell p) (ofCell x) || isPin ps x
 
--- "met on the way down from the operands of the table's cell, the way ending at pins". A register ends it as well, and so do an input and a constant, which need no other
--- cell in the same clock.
+-- "met on the way down from the operands of the table's cell, the way ending at pins". A register ends it as well, and so do an input and a
+-- constant, which need no other cell in the same clock.
 pub data Met (cells : List Cell) (cut : List CellNo) (c : CellNo) : CellNo → Type 0 where
   operand : {y : CellNo} → Needs cells c y → Met cells cut c y
   onward : {x y : CellNo} → Met cells cut c x → isPin cut x ≡ false → Needs cells x y → Met cells cut c y
@@ -60,6 +60,8 @@ pub record RightCut (cells : List Cell) (t : Table) : Type 0 where
   pub met : (p : ℕ) → p < pins → isConstant (cellAt cells (pinAt (t .pins) p)) ≡ false → Met cells (t .pins) (t .cell) (pinAt (t .pins) p)
   -- "A way down that meets a register or input which isn't a pin is a fault; a constant needs no pin."
   pub ends : (y : CellNo) → Met cells (t .pins) (t .cell) y → isSource (cellAt cells y) ≡ true → isPin (t .pins) y ≡ true
-  -- "each table, at all sixteen settings of its pins, equals the cells' value when the cells are cut at those pins": h gives each net at a pin a value, and v the cells
-  -- theirs with the pins held at h. "One pin net given twice must carry equal values to count as a setting": h gives a net one value.
-  pub equal : (h v : CellNo → Bool) (J : SignalNo → Bool) (S : ℕ → Bool) → SolvesHeld (isPin (t .pins)) h J S cells v → answers t v ≡ v (t .cell)
+  -- "each table, at all sixteen settings of its pins, equals the cells' value when the cells are cut at those pins": h gives each net at a
+  -- pin a value, and v the cells theirs with the pins held at h. "One pin net given twice must carry equal values to count as a setting": h
+  -- gives a net one value.
+  pub equal : (h v : CellNo → Bool) (J : SignalNo → Bool) (S : ℕ → Bool) → SolvesHeld (isPin (t .pins)) h J S cells v
+      → answers t v ≡ v (t .cell)

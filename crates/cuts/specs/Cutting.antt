@@ -95,7 +95,8 @@ pub record Ready (cells : List Cell) (cut : List CellNo) (base : ℕ) (marks val
 abbrev pub unknown : List Cell → ℕ → List ℕ → ℕ
 unknown cells base marks = zeros (length cells) (map (λ (m : ℕ). m - (base + 1)) marks)
 
--- the way down from the cell c: the cells on the stack reach each other downwards, and what is known below c has all that it needs known, up to the pins
+-- the way down from the cell c: the cells on the stack reach each other downwards, and what is known below c has all that it needs known,
+-- up to the pins
 pub record Cutting (cells : List Cell) (cut : List CellNo) (c : CellNo) (base : ℕ) (marks values stack : List ℕ) (top : ℕ) : Type 0 where
   pub long : length cut ≡ pins
   pub own : isSource (cellAt cells c) ≡ false
@@ -122,7 +123,8 @@ abbrev pub left : List Cell → ℕ → List ℕ → ℕ → ℕ
 left cells base marks top = unknown cells base marks * suc (length cells) + (length cells - top)
 
 -- a step
-pub record Went (cells : List Cell) (cut : List CellNo) (c : CellNo) (base : ℕ) (marks marks′ values′ stack′ : List ℕ) (top top′ : ℕ) : Type 0 where
+pub record Went (cells : List Cell) (cut : List CellNo) (c : CellNo) (base : ℕ) (marks marks′ values′ stack′ : List ℕ)
+    (top top′ : ℕ) : Type 0 where
   pub cutting : Cutting cells cut c base marks′ values′ stack′ top′
   pub less : left cells base marks′ top′ < left cells base marks top
 
@@ -133,8 +135,10 @@ pub record Strays (cells : List Cell) (cut : List CellNo) (c : CellNo) : Type 0 
   pub source : isSource (cellAt cells at) ≡ true
   pub no-pin : isPin cut at ≡ false
 
-pub data Stepped (cells : List Cell) (cut : List CellNo) (c : CellNo) (base : ℕ) (marks marks′ values′ stack′ : List ℕ) (top : ℕ) : Step → Type 0 where
-  on : {top′ : ℕ} → Went cells cut c base marks marks′ values′ stack′ top top′ → Stepped cells cut c base marks marks′ values′ stack′ top (On top′)
+pub data Stepped (cells : List Cell) (cut : List CellNo) (c : CellNo) (base : ℕ) (marks marks′ values′ stack′ : List ℕ)
+    (top : ℕ) : Step → Type 0 where
+  on : {top′ : ℕ} → Went cells cut c base marks marks′ values′ stack′ top top′
+      → Stepped cells cut c base marks marks′ values′ stack′ top (On top′)
   stray : Strays cells cut c → Stepped cells cut c base marks marks′ values′ stack′ top Stray
 
 -- the way down from the cell c was gone to its end, or it strays

@@ -1,6 +1,7 @@
-// What a table cuts out of the cells: those on the way down from its cell, the way ending at its pins. Each of them gets a word with its value at every setting of the
-// pins, a bit for each, so that all settings are gone through at once. Marks are counted from a base, which is two higher for the next table, so that none is ever
-// cleared: up to the base a cell is new, one past it a pin that is not met, two past it a cell whose word is known.
+// What a table cuts out of the cells: those on the way down from its cell, the way ending at its pins. Each of them gets a word with its
+// value at every setting of the pins, a bit for each, so that all settings are gone through at once. Marks are counted from a base, which
+// is two higher for the next table, so that none is ever cleared: up to the base a cell is new, one past it a pin that is not met, two past
+// it a cell whose word is known.
 use cells::Cell;
 use cells::Gate;
 use number::CellNo;
@@ -18,7 +19,8 @@ ghost use Rattle.cells.specs.Words.{cellsOf};
 ghost use Rattle.cells.specs.Needs.{IsCell, Closed};
 ghost use Rattle.order.specs.Search.{mark};
 ghost use Rattle.cuts.specs.Cut.{pinAt, isSource};
-ghost use Rattle.cuts.specs.Cutting.{HasOrder, PinWord, AlikeIn, Lent, AllNew, Pinned, PinSet, Roomy, Meets, Ready, Cutting, Going, Stepped, CutOut};
+ghost use Rattle.cuts.specs.Cutting.{HasOrder, PinWord, AlikeIn, Lent, AllNew, Pinned, PinSet, Roomy, Meets, Ready};
+ghost use Rattle.cuts.specs.Cutting.{Cutting, Going, Stepped, CutOut};
 
 // After a visit to the cell on top: so many cells are on the way; or it is a register or an input that is no pin.
 enum Step {
@@ -101,7 +103,8 @@ fn meet(marks: &mut [u64], base: u64, x: CellNo) -> bool
 // The word of x.
 fn settle(marks: &mut [u64], values: &mut [u16], base: u64, x: CellNo, word: u16)
     requires { ⌜ Roomy base × (ofCell x < length (now marks)) × (ofCell x < length (now values)) ⌝ }
-    ensures { λ _. ⌜ (now (marks .exit) ≡ set (now (marks .entry)) (ofCell x) (base + 2)) × (now (values .exit) ≡ set (now (values .entry)) (ofCell x) word) ⌝ }
+    ensures { λ _. ⌜ (now (marks .exit) ≡ set (now (marks .entry)) (ofCell x) (base + 2))
+        × (now (values .exit) ≡ set (now (values .entry)) (ofCell x) word) ⌝ }
 {
     let n = x.number() as usize;
     marks[n] = base + 2;
@@ -119,8 +122,10 @@ fn visit(
 ) -> Step
     requires { ⌜ Roomy base × Closed (cellsOf (now cells)) × HasOrder (cellsOf (now cells)) × (0 < top)
         × Going (cellsOf (now cells)) base (now marks) (now values) (now stack) top ⌝ }
-    ensures { λ r. ⌜ ((cut : List CellNo) (c : CellNo) → Cutting (cellsOf (now (cells .entry))) cut c base (now (marks .entry)) (now (values .entry)) (now (stack .entry)) top
-        → Stepped (cellsOf (now (cells .entry))) cut c base (now (marks .entry)) (now (marks .exit)) (now (values .exit)) (now (stack .exit)) top r) ⌝ }
+    ensures { λ r. ⌜ ((cut : List CellNo) (c : CellNo)
+        → Cutting (cellsOf (now (cells .entry))) cut c base (now (marks .entry)) (now (values .entry)) (now (stack .entry)) top
+        → Stepped (cellsOf (now (cells .entry))) cut c base (now (marks .entry)) (now (marks .exit)) (now (values .exit))
+        (now (stack .exit)) top r) ⌝ }
 {
     let at = top - 1;
     let x = CellNo::new(stack[at]);
@@ -160,10 +165,12 @@ pub fn cut_out(
     base: u64,
     t: Table,
 ) -> bool
-    requires { ⌜ Roomy base × Closed (cellsOf (now cells)) × HasOrder (cellsOf (now cells)) × Lent (cellsOf (now cells)) (now marks) (now values) (now stack)
+    requires { ⌜ Roomy base × Closed (cellsOf (now cells)) × HasOrder (cellsOf (now cells))
+        × Lent (cellsOf (now cells)) (now marks) (now values) (now stack)
         × (isSource (cellAt (cellsOf (now cells)) (t .cell)) ≡ false) × IsCell (cellsOf (now cells)) (t .cell)
         × (mark (now marks) (t .cell) ≤ base) × Ready (cellsOf (now cells)) (t .pins) base (now marks) (now values) ⌝ }
-    ensures { λ r. ⌜ CutOut (cellsOf (now (cells .entry))) (t .pins) (t .cell) base (now (marks .exit)) (now (values .exit)) (now (stack .exit)) r ⌝ }
+    ensures { λ r. ⌜ CutOut (cellsOf (now (cells .entry))) (t .pins) (t .cell) base (now (marks .exit)) (now (values .exit))
+        (now (stack .exit)) r ⌝ }
 {
     stack[0] = t.cell.number();
     let mut top: usize = 1;

@@ -1,38 +1,35 @@
 -- One table for every gate is a right cover: both operands are pins, so the way down ends at them, and the table is the gate's.
-use Prim.Native.Nat.{ℕ, zero, suc, _^_, _<_}
+use Prim.Native.Nat.{ℕ, zero, suc, _+_, _<_, _≤_}
 use mathlib.Core.Path.{_≡_, refl, sym, ap, _∙_, subst}
 use mathlib.Core.Bool.{Bool, true, false, true≢false}
 use mathlib.Core.List.{List, [], _∷_}
 use mathlib.Core.Logic.{_⊎_, inl, inr, ⊎-elim}
 use native.Mathlib.Omega.{arith}
-use lib.ListN.{length, getD}
+use lib.ListN.{length}
 use Rattle.number.specs.declared.CellNo.{CellNo}
 use Rattle.number.specs.declared.SignalNo.{SignalNo}
 use Rattle.number.specs.Number.{pick}
 use Rattle.tables.specs.declared.Table.{Table}
 use Rattle.tables.specs.Answering.{pins, settings, bit, setting, answers}
 use Rattle.tables.proofs.Settings.{setting-small, setting-bit}
-use Rattle.cells.specs.declared.Gate as gate
 use Rattle.cells.specs.declared.Cell.{Cell}
-use Rattle.cells.specs.declared.Cell.the-variants.{Low, High, Input, Gate, Register}
-use Rattle.cells.specs.declared.Pins.the-variants.{Two}
-use Rattle.cells.specs.Cells.{truth, cellAt, signalCell}
-use Rattle.cells.specs.Values.{before, value}
+use Rattle.cells.specs.declared.Cell.the-variants.{Gate}
+use Rattle.cells.specs.Cells.{truth, cellAt}
 use Rattle.cells.specs.Needs.{IsCell, pinsOf, Among, Needs, Closed}
 use Rattle.cells.specs.Netlist.{Netlist}
 use Rattle.order.specs.Paths.{one, Ordered}
-use Rattle.run.specs.Words.{isOutput}
 use Rattle.run.specs.Held.{SolvesHeld}
-use Rattle.cuts.specs.Cut.{pinAt, isGate, isSource, isConstant, isPin, Met, operand, onward}
+use Rattle.cuts.specs.Cut.{pinAt, isGate, isConstant, isPin, Met, operand, onward}
 use Rattle.covers.specs.Covers.{tableCount, tableAt, Carried}
 use Rattle.cuts.specs.Cut.{RightCut}
-use Rattle.covers.specs.Covers.{RightTable, RightCover}
+use Rattle.covers.specs.Covers.{RightCover}
 use Rattle.cuts.proofs.Depth.{no-cycle}
 use Rattle.cuts.proofs.Pins.{pin-found, found-pin}
+use Rattle.covers.proofs.Carrying.{output-last}
 use Rattle.covers.proofs.Tables.{gate-cell}
 use Rattle.giving.specs.EachGate.{Filler, first, second, constant, OneGate, EachGate}
 
-module _ {cells : List Cell} {order : List ℕ} (o : Ordered cells order) (closed : Closed cells) {t : Table} (g : OneGate cells t)
+module _ {cells : List Cell} {order : List ℕ} (o : Ordered cells order) {t : Table} (g : OneGate cells t)
     (own : IsCell cells (t .cell)) where
   needs-x : Needs cells (t .cell) (g .x)
   needs-x = record { among = subst (λ (c : Cell). Among (pinsOf c) (g .x)) (sym (g .is)) (inl refl) }
@@ -85,7 +82,8 @@ module _ {cells : List Cell} {order : List ℕ} (o : Ordered cells order) (close
   not-own z first e = no-cycle o own (one (subst (Needs cells (t .cell)) e needs-x))
   not-own z second e = no-cycle o own (one (subst (Needs cells (t .cell)) e needs-y))
   not-own z (constant is c) e =
-      let low : isConstant (Gate (g .kind) (g .x) (g .y)) ≡ true = ap isConstant (sym (g .is)) ∙ ap (λ (n : CellNo). isConstant (cellAt cells n)) (sym e) ∙ c in
+      let low : isConstant (Gate (g .kind) (g .x) (g .y)) ≡ true =
+      ap isConstant (sym (g .is)) ∙ ap (λ (n : CellNo). isConstant (cellAt cells n)) (sym e) ∙ c in
       true≢false (sym low)
 
   no-own : isPin (t .pins) (t .cell) ≡ false
@@ -103,7 +101,8 @@ module _ {cells : List Cell} {order : List ℕ} (o : Ordered cells order) (close
       go true e = let f = pin-found (t .pins) (t .cell) e in absurd (which (f .0) (rw four at (f .1)) (sym (at (f .0)) ∙ f .2))
 
   -- the table is the gate's
-  equal : (h v : CellNo → Bool) (J : SignalNo → Bool) (S : ℕ → Bool) → SolvesHeld (isPin (t .pins)) h J S cells v → answers t v ≡ v (t .cell)
+  equal : (h v : CellNo → Bool) (J : SignalNo → Bool) (S : ℕ → Bool) → SolvesHeld (isPin (t .pins)) h J S cells v
+      → answers t v ≡ v (t .cell)
   unfolding answers pick
   equal h v J S s =
       let b : ℕ = setting v (t .pins) in
@@ -118,8 +117,8 @@ module _ {cells : List Cell} {order : List ℕ} (o : Ordered cells order) (close
   gate-cut = record { met = met; ends = λ y m source. operand-pin y (met-operand y m); equal = equal }
 
 -- The cover.
-module _ (w : Netlist) {order : List ℕ} (o : Ordered (w .cells) order) (closed : Closed (w .cells)) {cover : List ℕ} (each : EachGate (w .cells) cover)
-    (outputs : (s : SignalNo) → isOutput (w .inputs) (w .outputs) s ≡ true → IsCell (w .cells) (signalCell s)) where
+module _ (w : Netlist) {order : List ℕ} (o : Ordered (w .cells) order) (closed : Closed (w .cells))
+    (enough : 2 + w .inputs + w .outputs ≤ length (w .cells)) {cover : List ℕ} (each : EachGate (w .cells) cover) where
   is-gate : (k : ℕ) → k < tableCount cover → isGate (cellAt (w .cells) (tableAt cover k .cell)) ≡ true
   is-gate k h = ap isGate (each .tables k h .is)
 
@@ -149,18 +148,18 @@ module _ (w : Netlist) {order : List ℕ} (o : Ordered (w .cells) order) (closed
         tables = λ k h.
             let g = each .tables k h in
             let own = gate-cell (w .cells) (tableAt cover k .cell) (is-gate k h) in
-            let a = closed .gates _ _ (needs-x o closed g own) in
-            let b = closed .gates _ _ (needs-y o closed g own) in
+            let a = closed .gates _ _ (needs-x o g own) in
+            let b = closed .gates _ _ (needs-y o g own) in
             record {
               gate = is-gate k h;
               pins-carried = λ p q. carried (pin-cell g a b p q);
               single = λ j l. each .once j k l h;
-              cut = gate-cut o closed g own;
+              cut = gate-cut o g own;
             };
         complete =
             record {
               whole = each .whole;
-              outputs = λ s h. carried (outputs s h);
+              outputs = λ s h. carried (omega (arith, output-last (w .inputs) (w .outputs) s h));
               operands = λ x y e. carried (closed .registers x y e);
             };
       }

@@ -1,12 +1,12 @@
 -- An accepted cover gives what the netlist gives: the netlist's values are the cover's, and no others are on the nets that are carried.
-use Prim.Native.Nat.{ℕ, zero, suc, _*_, _<_, _≤_}
+use Prim.Native.Nat.{ℕ, zero, suc, _*_, _<_}
 use mathlib.Core.Path.{_≡_, refl, sym, ap, _∙_, subst}
 use mathlib.Core.Bool.{Bool, true, false, _&&_}
 use mathlib.Core.List.{List, [], _∷_, map}
 use native.Mathlib.Omega.{arith}
 use native.Mathlib.Nat.{not-suc-le-zero}
 use lib.ListN.{length, getD}
-use Rattle.number.specs.Counts.{cellNo, ofCell}
+use Rattle.number.specs.Counts.{cellNo}
 use Rattle.number.specs.Number.{pick}
 use Rattle.number.specs.declared.CellNo.{CellNo}
 use Rattle.number.specs.declared.SignalNo.{SignalNo}
@@ -19,23 +19,23 @@ use Rattle.cells.specs.declared.Cell.the-variants.{Low, High, Input, Gate, Regi
 use Rattle.cells.specs.Cells.{cellAt, signalCell}
 use Rattle.cells.specs.Values.{before, value, Solves, operandsOf, nextOf}
 use Rattle.cells.specs.Netlist.{Netlist}
-use Rattle.cells.proofs.Needing.{value-same}
-use Rattle.cells.specs.Needs.{pinsOf, Among}
 use Rattle.order.specs.Paths.{placed, Ordered}
 use Rattle.run.specs.Words.{isOutput, outputsOf}
 use Rattle.run.specs.Held.{SolvesHeld}
 use Rattle.run.specs.React.{Clock}
-use Rattle.run.specs.Many.{Steps, ended, goes}
-use Rattle.run.proofs.One.{a-solution}
+use Rattle.run.specs.Many.{Steps, ended, goes, each}
+use Rattle.run.proofs.One.{a-solution, one-clock}
+use Rattle.run.proofs.Going.{SameSteps, one-run}
 use Rattle.cuts.specs.Cut.{pinAt, isGate, isConstant, isPin}
-use Rattle.covers.specs.Covers.{size, tableCount, tableAt, Carried, RightTable, RightCover}
-use Rattle.giving.specs.Giving.{Gives, CoverClock}
+use Rattle.covers.specs.Covers.{size, tableCount, tableAt, Carried, RightCover}
+use Rattle.giving.specs.Giving.{Gives, CoverClock, CoverRun}
 use Rattle.cuts.proofs.Depth.{lower}
 use Rattle.covers.proofs.Cuts.{met-reached}
 use Rattle.covers.proofs.Reading.{pins-long}
 
 -- values on the pins alone make a table's answer
-pub same-answers : (t : Table) (u v : CellNo → Bool) → length (t .pins) ≡ pins → ((p : ℕ) → p < pins → u (pinAt (t .pins) p) ≡ v (pinAt (t .pins) p))
+pub same-answers : (t : Table) (u v : CellNo → Bool) → length (t .pins) ≡ pins
+    → ((p : ℕ) → p < pins → u (pinAt (t .pins) p) ≡ v (pinAt (t .pins) p))
     → answers t u ≡ answers t v
 unfolding answers
 same-answers t u v long same =
@@ -79,7 +79,8 @@ operands-same u v (Input s ∷ cs) f = operands-same u v cs (λ i. f (suc i))
 operands-same u v (Gate g x y ∷ cs) f = operands-same u v cs (λ i. f (suc i))
 operands-same u v (Register x ∷ cs) f = rw (f 0 x refl, operands-same u v cs (λ i. f (suc i)))
 
-module _ {w : Netlist} {cover order : List ℕ} (r : RightCover w cover) (o : Ordered (w .cells) order) (J : SignalNo → Bool) (S : ℕ → Bool) where
+module _ {w : Netlist} {cover order : List ℕ} (r : RightCover w cover) (o : Ordered (w .cells) order) (J : SignalNo → Bool)
+    (S : ℕ → Bool) where
   -- the netlist's values are given
   pub net-gives : (v : CellNo → Bool) → Solves J S (w .cells) v → Gives J S (w .cells) cover v
   net-gives v solves =
@@ -94,7 +95,8 @@ module _ {w : Netlist} {cover order : List ℕ} (r : RightCover w cover) (o : Or
 
     -- a table's cell, where the nets that stand before it agree
     at-table : (p k : ℕ) → p < length (w .cells) → k < tableCount cover → placed order p ≡ tableAt cover k .cell
-        → ((q : ℕ) (y : CellNo) → q < p → placed order q ≡ y → Carried (w .cells) cover y → u y ≡ v y) → u (tableAt cover k .cell) ≡ v (tableAt cover k .cell)
+        → ((q : ℕ) (y : CellNo) → q < p → placed order q ≡ y → Carried (w .cells) cover y → u y ≡ v y)
+        → u (tableAt cover k .cell) ≡ v (tableAt cover k .cell)
     at-table p k l h e below =
         let t : Table = tableAt cover k in
         gives .tables k h ∙ same-answers t u v (pins-long cover (k * size)) at-pin ∙ sym (net-gives v solves .tables k h)
@@ -104,7 +106,8 @@ module _ {w : Netlist} {cover order : List ℕ} (r : RightCover w cover) (o : Or
           where
             go : (b : Bool) → isConstant (cellAt (w .cells) (pinAt (tableAt cover k .pins) q)) ≡ b
                 → u (pinAt (tableAt cover k .pins) q) ≡ v (pinAt (tableAt cover k .pins) q)
-            go true constant = own (pinAt (tableAt cover k .pins) q) (constants (cellAt (w .cells) (pinAt (tableAt cover k .pins) q)) constant)
+            go true constant =
+                own (pinAt (tableAt cover k .pins) q) (constants (cellAt (w .cells) (pinAt (tableAt cover k .pins) q)) constant)
             go false other =
                 let y : CellNo = pinAt (tableAt cover k .pins) q in
                 let before-it = lower o (met-reached (r .tables k h .cut .met q hq other)) p l e in
@@ -126,11 +129,11 @@ module _ {w : Netlist} {cover order : List ℕ} (r : RightCover w cover) (o : Or
     upto (suc m) p x h l e c = at-cell p x l e c (λ q y g e′ c′. upto m q y (omega arith) (omega arith) e′ c′)
 
     -- "exactly one such valuation": on every net that is carried it is the netlist's
-    pub one-valuation : (x : CellNo) → Carried (w .cells) cover x → u x ≡ v x
+    one-valuation : (x : CellNo) → Carried (w .cells) cover x → u x ≡ v x
     one-valuation x c = let p = o .each x (c .cell) in upto (suc (p .0)) (p .0) x (omega arith) (p .1) (p .2) c
 
     -- so outputs and next state are the netlist's
-    pub same-outputs : (s : SignalNo) → outputsOf (w .inputs) (w .outputs) u s ≡ outputsOf (w .inputs) (w .outputs) v s
+    same-outputs : (s : SignalNo) → outputsOf (w .inputs) (w .outputs) u s ≡ outputsOf (w .inputs) (w .outputs) v s
     same-outputs s = go (isOutput (w .inputs) (w .outputs) s) refl
       where
         go : (b : Bool) → isOutput (w .inputs) (w .outputs) s ≡ b
@@ -138,14 +141,28 @@ module _ {w : Netlist} {cover order : List ℕ} (r : RightCover w cover) (o : Or
         go true e = ap (λ (x : Bool). isOutput (w .inputs) (w .outputs) s && x) (one-valuation (signalCell s) (r .complete .outputs s e))
         go false e = rw e
 
-    pub same-next : (b : ℕ) → nextOf u (w .cells) b ≡ nextOf v (w .cells) b
+    same-next : (b : ℕ) → nextOf u (w .cells) b ≡ nextOf v (w .cells) b
     same-next b =
         ap (λ (bits : List Bool). getD bits b false)
         (operands-same u v (w .cells) (λ i y e. one-valuation y (r .complete .operands (cellNo i) y e)))
 
+-- two valuations that a cover gives are one
+pub one-given : {w : Netlist} {cover order : List ℕ} → RightCover w cover → Ordered (w .cells) order → (J : SignalNo → Bool) (S : ℕ → Bool)
+    (u v : CellNo → Bool) → Gives J S (w .cells) cover u → Gives J S (w .cells) cover v → (x : CellNo) → Carried (w .cells) cover x → u x
+    ≡ v x
+one-given {w} {order = order} r o J S u v gives other x c =
+    let one = a-solution (w .cells) order o J S in
+    one-valuation r o J S u (one .0) gives (one .1) x c ∙ sym (one-valuation r o J S v (one .0) other (one .1) x c)
+
+-- any events may be asked about
+any-event : (events : List ℕ) → each (λ event. true) events ≡ true
+unfolding each
+any-event [] = refl
+any-event (e ∷ es) = any-event es
+
 -- One clock of an accepted cover is one of its netlist, and the other way round; so is a run over any events.
 module _ {w : Netlist} {cover order : List ℕ} (r : RightCover w cover) (o : Ordered (w .cells) order) where
-  pub cover-clock : (state event outputs next : ℕ) → CoverClock (w .inputs) (w .outputs) (w .cells) cover state event outputs next
+  pub cover-clock : (state event outputs next : ℕ) → CoverClock w cover state event outputs next
       → Clock (w .inputs) (w .outputs) (w .cells) state event outputs next
   cover-clock state event outputs next c =
       let one = a-solution (w .cells) order o (signalsIn event) (has state) in
@@ -157,7 +174,7 @@ module _ {w : Netlist} {cover order : List ℕ} (r : RightCover w cover) (o : Or
       }
 
   pub net-clock : (state event outputs next : ℕ) → Clock (w .inputs) (w .outputs) (w .cells) state event outputs next
-      → CoverClock (w .inputs) (w .outputs) (w .cells) cover state event outputs next
+      → CoverClock w cover state event outputs next
   net-clock state event outputs next c =
       record {
         values = c .values;
@@ -166,12 +183,27 @@ module _ {w : Netlist} {cover order : List ℕ} (r : RightCover w cover) (o : Or
         keeps = c .keeps;
       }
 
-  pub cover-runs : {state : ℕ} {events shown states : List ℕ} → Steps (CoverClock (w .inputs) (w .outputs) (w .cells) cover) state events shown states
+  pub cover-runs : {state : ℕ} {events shown states : List ℕ} → CoverRun w cover state events shown states
       → Steps (Clock (w .inputs) (w .outputs) (w .cells)) state events shown states
   cover-runs ended = ended
-  cover-runs {state} (goes {event = event} {signals = signals} {next = next} c rest) = goes (cover-clock state event signals next c) (cover-runs rest)
+  cover-runs {state} (goes {event = event} {signals = signals} {next = next} c rest) =
+      goes (cover-clock state event signals next c) (cover-runs rest)
 
   pub net-runs : {state : ℕ} {events shown states : List ℕ} → Steps (Clock (w .inputs) (w .outputs) (w .cells)) state events shown states
-      → Steps (CoverClock (w .inputs) (w .outputs) (w .cells) cover) state events shown states
+      → CoverRun w cover state events shown states
   net-runs ended = ended
-  net-runs {state} (goes {event = event} {signals = signals} {next = next} c rest) = goes (net-clock state event signals next c) (net-runs rest)
+  net-runs {state} (goes {event = event} {signals = signals} {next = next} c rest) =
+      goes (net-clock state event signals next c) (net-runs rest)
+
+  -- there is one
+  pub one-clock-of : (state event o n o′ n′ : ℕ) → CoverClock w cover state event o n → CoverClock w cover state event o′ n′
+      → (o ≡ o′) × (n ≡ n′)
+  one-clock-of state event a n b m x y =
+      one-clock (w .inputs) (w .outputs) (w .cells) order o state event a b n m (cover-clock state event a n x)
+      (cover-clock state event b m y)
+
+  pub one-run-of : {state : ℕ} {events shown states shown′ states′ : List ℕ} → CoverRun w cover state events shown states
+      → CoverRun w cover state events shown′ states′ → SameSteps shown states shown′ states′
+  one-run-of {events = events} x y =
+      one-run (CoverClock w cover) (λ state. Unit) (λ event. true) (λ state event a n b m good own. one-clock-of state event a n b m)
+      (λ state event a n good own c. tt) tt (any-event events) x y

@@ -1,3 +1,4 @@
 pub mod Giving
 pub mod Reordered
 pub mod EachGate
+pub mod Deciding

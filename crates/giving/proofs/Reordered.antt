@@ -1,38 +1,32 @@
--- A cover with one of its tables reordered is right if and only if it was: the pins are the same nets, so the cut is the same, and the table
--- answers as before.
-use Prim.Native.Nat.{ℕ, _*_, _^_, _/_, _<_}
-use mathlib.Core.Path.{_≡_, refl, sym, ap, _∙_, subst}
+-- A cover with its tables reordered is right or wrong where it was: the pins are the same nets, so the cut is the same, and a table answers
+-- as before.
+use Prim.Native.Nat.{ℕ, _*_, _/_, _<_}
+use mathlib.Core.Path.{_≡_, sym, ap, _∙_, subst}
 use mathlib.Core.Bool.{Bool, true, false}
 use mathlib.Core.List.{List}
-use native.Mathlib.Omega.{arith}
+use mathlib.Core.Logic.{inl, inr, ⊎-elim}
 use native.Mathlib.Decide.{ℕ-discrete}
 use lib.ListN.{length, getD}
 use Rattle.number.specs.declared.CellNo.{CellNo}
 use Rattle.number.specs.declared.SignalNo.{SignalNo}
-use Rattle.number.specs.Number.{pick}
+use Rattle.number.proofs.Bools.{same}
 use Rattle.tables.specs.declared.Table.{Table}
-use Rattle.tables.specs.Answering.{pins, settings, answers, Formed}
+use Rattle.tables.specs.Answering.{pins, Formed}
 use Rattle.tables.specs.Orders.{orders, orderAt, inverseOf}
 use Rattle.tables.specs.Reordering.{movedPins, reordered}
 use Rattle.tables.proofs.OrderLaws.{pin-small, inverse-small, pin-back}
-use Rattle.tables.proofs.Reorders.{moved-at, moved-length, same-answer, undone}
+use Rattle.tables.proofs.Reorders.{moved-at, moved-length, moved-small, same-answer, undone}
 use Rattle.cells.specs.declared.Cell.{Cell}
 use Rattle.cells.specs.Cells.{cellAt}
 use Rattle.cells.specs.Netlist.{Netlist}
 use Rattle.run.specs.Held.{SolvesHeld}
-use Rattle.cuts.specs.Cut.{pinAt, isGate, isSource, isConstant, isPin, Met, operand, onward}
-use Rattle.covers.specs.Covers.{size, tableCount, tableAt, HasTable, Carried}
+use Rattle.cuts.specs.Cut.{pinAt, isGate, isConstant, isPin, Met, operand, onward}
+use Rattle.covers.specs.Covers.{size, tableCount, tableAt, Carried}
 use Rattle.cuts.specs.Cut.{RightCut}
-use Rattle.covers.specs.Covers.{RightTable, Complete, RightCover}
+use Rattle.covers.specs.Covers.{RightTable, Complete, RightCover, FirstWrong}
 use Rattle.cuts.proofs.Pins.{pin-found, found-pin}
 use Rattle.covers.proofs.Reading.{pins-long}
-use Rattle.giving.specs.Reordering.{OneReordered}
-
--- two tests that hold together are one
-both-ways : (a b : Bool) → (a ≡ true → b ≡ true) → (b ≡ true → a ≡ true) → a ≡ b
-both-ways true b f g = sym (f refl)
-both-ways false true f g = g refl
-both-ways false false f g = refl
+use Rattle.giving.specs.Reordering.{OneReordered, Reordered, none, and-one}
 
 -- Pins in another order.
 module _ (o : ℕ) (ho : o < orders) (cut : List CellNo) (long : length cut ≡ pins) where
@@ -48,7 +42,7 @@ module _ (o : ℕ) (ho : o < orders) (cut : List CellNo) (long : length cut ≡ 
   pin-is p h = pin-was _ (pin-small (inverseOf o) p (inverse-small o ho) h) ∙ ap (pinAt cut) (pin-back o p ho h)
 
   same-pins : (x : CellNo) → isPin moved x ≡ isPin cut x
-  same-pins x = both-ways (isPin moved x) (isPin cut x) was is
+  same-pins x = same (isPin moved x) (isPin cut x) was is
     where
       was : isPin moved x ≡ true → isPin cut x ≡ true
       was e =
@@ -87,15 +81,16 @@ cut-right o ho cells t f r =
     record {
       met = λ q h free.
           let was = pin-was o ho cut long q h in
-          let old : isConstant (cellAt cells (pinAt cut (getD (orderAt o) q 0))) ≡ false = ap (λ (x : CellNo). isConstant (cellAt cells x)) (sym was) ∙ free in
+          let old : isConstant (cellAt cells (pinAt cut (getD (orderAt o) q 0))) ≡ false =
+          ap (λ (x : CellNo). isConstant (cellAt cells x)) (sym was) ∙ free in
           subst (Met cells (movedPins (orderAt o) cut) (t .cell)) (sym was)
           (same-met o ho cut long cells (t .cell) _ (r .met (getD (orderAt o) q 0) (pin-small o q ho h) old));
       ends = λ y m source. same-pins o ho cut long y ∙ r .ends y (same-met-back o ho cut long cells (t .cell) y m) source;
       equal = λ h v J S s. same-answer o ho t f v ∙ r .equal h v J S (same-held o ho cut long h v J S cells s);
     }
 
--- The cover.
-module _ (w : Netlist) {cover cover′ : List ℕ} {k o : ℕ} (ho : o < orders) (formed : Formed (tableAt cover k)) (one : OneReordered k o cover cover′) where
+-- The cover, with one table reordered.
+module _ (w : Netlist) {cover cover′ : List ℕ} {k o : ℕ} (one : OneReordered k o cover cover′) where
   as-many : tableCount cover′ ≡ tableCount cover
   as-many = ap (λ (n : ℕ). n / size) (one .long)
 
@@ -128,16 +123,18 @@ module _ (w : Netlist) {cover cover′ : List ℕ} {k o : ℕ} (ho : o < orders)
       go : Dec (j ≡ k) → RightTable (w .cells) cover′ j
       go (yes e) =
           let here : tableAt cover′ j ≡ reordered o (tableAt cover j) = rw e (one .this) in
-          let own : Formed (tableAt cover j) = rw e formed in
+          let own : Formed (tableAt cover j) = rw e (one .formed) in
           let cut : List CellNo = tableAt cover j .pins in
           record {
             gate = gate;
             pins-carried = λ q h.
-                let was = pin-was o ho cut (own .as-many) q h in
-                let at-pin : pinAt (tableAt cover′ j .pins) q ≡ pinAt cut (getD (orderAt o) q 0) = ap (λ (t : Table). pinAt (t .pins) q) here ∙ was in
-                subst (Carried (w .cells) cover′) (sym at-pin) (carried (r .pins-carried (getD (orderAt o) q 0) (pin-small o q ho h)));
+                let was = pin-was o (one .order) cut (own .as-many) q h in
+                let at-pin : pinAt (tableAt cover′ j .pins) q ≡ pinAt cut (getD (orderAt o) q 0) =
+                ap (λ (t : Table). pinAt (t .pins) q) here ∙ was in
+                subst (Carried (w .cells) cover′) (sym at-pin) (carried
+                (r .pins-carried (getD (orderAt o) q 0) (pin-small o q (one .order) h)));
             single = single;
-            cut = subst (RightCut (w .cells)) (sym here) (cut-right o ho (w .cells) (tableAt cover j) own (r .cut));
+            cut = subst (RightCut (w .cells)) (sym here) (cut-right o (one .order) (w .cells) (tableAt cover j) own (r .cut));
           }
       go (no n) =
           let here : tableAt cover′ j ≡ tableAt cover j = one .others j n in
@@ -149,29 +146,48 @@ module _ (w : Netlist) {cover cover′ : List ℕ} {k o : ℕ} (ho : o < orders)
             cut = subst (RightCut (w .cells)) (sym here) (r .cut);
           }
 
-  -- it stays right
-  pub stays-right : RightCover w cover → RightCover w cover′
-  stays-right r =
+  complete : Complete w cover → Complete w cover′
+  complete c =
       record {
-        tables = λ j h. table-right j (r .tables j (rw as-many at h));
-        complete =
-            record {
-              whole = rw (one .long) (r .complete .whole);
-              outputs = λ s h. carried (r .complete .outputs s h);
-              operands = λ x y e. carried (r .complete .operands x y e);
-            };
+        whole = rw (one .long) (c .whole);
+        outputs = λ s h. carried (c .outputs s h);
+        operands = λ x y e. carried (c .operands x y e);
       }
 
--- and it was, if it is: the inverse puts the table back
-module _ (w : Netlist) {cover cover′ : List ℕ} {k o : ℕ} (ho : o < orders) (formed : Formed (tableAt cover k)) (formed′ : Formed (tableAt cover′ k))
-    (one : OneReordered k o cover cover′) where
+  -- the inverse puts the table back
   put-back : OneReordered k (inverseOf o) cover′ cover
+  unfolding reordered
   put-back =
       record {
+        order = inverse-small o (one .order);
+        formed = record {
+          as-many = pins-long cover′ (k * size);
+          truth-fits = rw (ap (λ (t : Table). t .truth) (one .this)) (moved-small o (one .order) (tableAt cover k .truth));
+        };
         long = sym (one .long);
-        this = sym (undone o ho (tableAt cover k) formed) ∙ ap (reordered (inverseOf o)) (sym (one .this));
+        this = sym (undone o (one .order) (tableAt cover k) (one .formed)) ∙ ap (reordered (inverseOf o)) (sym (one .this));
         others = λ j n. sym (one .others j n);
       }
 
-  pub was-right : RightCover w cover′ → RightCover w cover
-  was-right = stays-right w (inverse-small o ho) formed′ put-back
+module _ (w : Netlist) where
+  right-on : {cover cover′ : List ℕ} {k o : ℕ} → OneReordered k o cover cover′ → RightCover w cover → RightCover w cover′
+  right-on one r =
+      record { tables = λ j h. table-right w one j (r .tables j (rw (as-many w one) at h)); complete = complete w one (r .complete) }
+
+  wrong-on : {cover cover′ : List ℕ} {k o place : ℕ} → OneReordered k o cover cover′ → FirstWrong w cover place → FirstWrong w cover′ place
+  wrong-on {place = place} one f =
+      let back = put-back w one in
+      record {
+        before = λ j h. table-right w one j (f .before j h);
+        here =
+            ⊎-elim (λ t. inl (rw (as-many w one) (t .0), λ r. t .1 (table-right w back place r)))
+            (λ e. inr (e .0 ∙ sym (as-many w one), λ c. e .1 (complete w back c))) (f .here);
+      }
+
+  pub stays-right : {cover cover′ : List ℕ} → Reordered cover cover′ → RightCover w cover → RightCover w cover′
+  stays-right none r = r
+  stays-right (and-one rest one) r = right-on one (stays-right rest r)
+
+  pub stays-wrong : {cover cover′ : List ℕ} {place : ℕ} → Reordered cover cover′ → FirstWrong w cover place → FirstWrong w cover′ place
+  stays-wrong none f = f
+  stays-wrong (and-one rest one) f = wrong-on one (stays-wrong rest f)

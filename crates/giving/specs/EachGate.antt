@@ -1,8 +1,8 @@
--- "One table for every gate is always accepted": "with pins x, y and any two fillers of x, y or a constant, the truth table repeated over the fillers."
+-- "One table for every gate is always accepted": "with pins x, y and any two fillers of x, y or a constant, the truth table repeated over
+-- the fillers."
 use mathlib.Core.Path.{_≡_}
 use mathlib.Core.Bool.{true}
 use mathlib.Core.List.{List, [], _∷_}
-use mathlib.Core.Logic.{_⊎_}
 use Prim.Native.Nat.{ℕ, _%_, _<_}
 use lib.ListN.{length}
 use Rattle.number.specs.declared.CellNo.{CellNo}

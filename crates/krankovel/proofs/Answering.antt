@@ -2,25 +2,22 @@
 use mathlib.Core.Path.{_≡_, refl, ap, _∙_}
 use mathlib.Core.Bool.{Bool, true, false}
 use mathlib.Core.List.{List, [], _∷_}
-use Prim.Native.Nat.{ℕ, _+_, _^_, _<_, _≤_}
+use Prim.Native.Nat.{ℕ, _^_, _<_, _≤_}
 use native.Mathlib.Omega.{arith}
-use lib.Dec.{ltb, leb}
-use lib.ListN.{take, List·getD-eq-default}
-use borrow.Author.Tests.{leb-true}
+use lib.ListN.{take}
 use Rattle.number.specs.declared.CellNo.{CellNo}
 use Rattle.number.specs.Counts.{signalNo, ofSignal}
-use Rattle.number.proofs.Bools.{and-left, and-right, off}
+use Rattle.number.proofs.Bools.{and-right}
 use Rattle.limits.specs.Limits.{maxSignals, maxRegisters}
 use Rattle.bits.specs.Bits.{has, signalsIn, words, width, isWhole, wholeIn, wordsOf, setsIn, bitsOf}
 use Rattle.sheet.specs.Read.{SheetOutcome, sheet, faulty}
 use Rattle.sets.specs.Words.{wordOf}
 use Rattle.sets.proofs.Columns.{has-word}
 use Rattle.rules.specs.States.{fits}
-use Rattle.cells.specs.Values.{Solves, operands, nextOf}
+use Rattle.cells.specs.Values.{Solves, nextOf}
 use Rattle.cells.specs.Netlist.{Netlist, WellFormed}
-use Rattle.cells.proofs.Counting.{operands-length}
 use Rattle.order.specs.Paths.{Ordered}
-use Rattle.run.specs.Words.{isOutput, outputsOf, eventOk}
+use Rattle.run.specs.Words.{outputsOf, eventOk}
 use Rattle.run.specs.Many.{Step, Steps, ended, goes, each, eventsOk}
 use Rattle.run.specs.React.{Clock}
 use Rattle.run.proofs.One.{a-solution}
@@ -45,7 +42,11 @@ use Rattle.netlist_entries.specs.Cells.{wordsOf as wordsIn, listingOf, NetListe
 use Rattle.netlist_entries.proofs.OneNetAnswer.{one-net-checked, one-net-written, one-net-listed, one-net-reacted-many}
 use Rattle.compile_entries.specs.Compile.{sheetNet, Written, Listed}
 use Rattle.compile_entries.proofs.OneCompileAnswer.{one-written, one-listed}
+use Rattle.cover_entries.specs.Covers.{CoverChecked}
+use Rattle.cover_entries.proofs.OneCoverAnswer as covers
+use Rattle.cover_entries.proofs.OneCoverAnswer.{one-cover-checked}
 use Rattle.krankovel.specs.Promise.{Answered, Lent, LentTwo, Returned, Entries, telling}
+use Rattle.krankovel.proofs.Sets.{no-output, no-register}
 use Rattle.krankovel.proofs.Entries.{leaves}
 use Rattle.krankovel.proofs.Reactions.{ran-of, course}
 
@@ -176,6 +177,12 @@ module _ {found : FileOutcome} (so : netlists.Answered found) where
         kept = kept-words v o (netAccepted o) (wordsIn o) words (list-0 (wordsIn o) words o (netAccepted o) (net-0 (wordsIn o) words o));
       }
 
+-- of a cover
+of-cover : {found : FileOutcome} → netlists.Answered found → (cover : List ℕ) → Answered (CoverChecked found cover)
+of-cover {found} so cover =
+    let a = covers.answered so cover in
+    record { answer = a .answer; is = record { allowed = a .checked; alone = λ other x. one-cover-checked found x (a .checked) } }
+
 -- The entries that run: what is told where nothing stops a run, of which there is one, and where something does.
 record HasRun (step : Step) (ask : Asked) : Type 0 where
   shown : List ℕ
@@ -276,7 +283,7 @@ module _ {w : Netlist} (sound : WellFormed w) {order : List ℕ} (ordered : Orde
           values = v;
           solves = solution .1;
           shows = λ s. ap (λ (A : ℕ → Bool). A (ofSignal s)) (has-word maxSignals shown shown-few);
-          keeps = λ b. ap (λ (A : ℕ → Bool). A b) (has-word maxRegisters (nextOf v (w .cells)) next-few);
+          keeps = λ b. ap (λ (A : ℕ → Bool). A b) (has-word maxRegisters (nextOf v (w .cells)) (no-register sound v));
         };
       }
     where
@@ -290,15 +297,7 @@ module _ {w : Netlist} (sound : WellFormed w) {order : List ℕ} (ordered : Orde
       shown k = outputsOf (w .inputs) (w .outputs) v (signalNo k)
 
       shown-few : (k : ℕ) → maxSignals ≤ k → shown k ≡ false
-      shown-few k l = off (shown k) (λ on.
-          let I : ℕ = w .inputs in
-          let O : ℕ = w .outputs in
-          let is = and-left (isOutput I O (signalNo k)) (v _) on in
-          let last = leb-true k (I + O) (and-right (ltb I k) (leb k (I + O)) is) in
-          omega (arith, sound .signals))
-
-      next-few : (b : ℕ) → maxRegisters ≤ b → nextOf v (w .cells) b ≡ false
-      next-few b l = List·getD-eq-default (operands v (w .cells)) false {n = b} (omega (arith, operands-length v (w .cells), sound .bits))
+      shown-few k l = no-output (w .inputs) (w .outputs) k (v _) (omega (arith, sound .signals))
 
   clocks : (events : List ℕ) (state : ℕ)
       → (os : List ℕ) × (ns : List ℕ) × Steps (Clock (w .inputs) (w .outputs) (w .cells)) state events os ns
@@ -359,6 +358,8 @@ entries =
           let found : FileOutcome = judgeCells I O words in
           returns (NetReactedMany found) (one-net-reacted-many found) (cells-runs I O words (one state event));
       of-react-cells-many = cells-runs;
+      of-cover-file = λ file. of-cover (netlists.file-answered file);
+      of-cover-cells = λ I O words. of-cover (netlists.cells-answered I O words);
     }
   where
     file-runs : (file : List ℕ) (ask : Asked) → LentTwo (λ a told. NetReactedMany (readFile file) a told) ask

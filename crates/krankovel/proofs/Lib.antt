@@ -3,3 +3,4 @@ pub mod Entries
 pub mod Reactions
 pub mod Answering
 pub mod Promise
+pub mod Covered

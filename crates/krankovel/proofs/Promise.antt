@@ -31,7 +31,7 @@ use Rattle.krankovel.proofs.Entries.{net-checked, net-written, net-no-r
 use Rattle.krankovel.proofs.Reactions.{file-ok, cells-ok, has-reaction, runs}
 
 -- no refusal has number 0
-refused-no : (r : Refusal) → refusalNo r ≡ 0 → ⊥
+pub refused-no : (r : Refusal) → refusalNo r ≡ 0 → ⊥
 refused-no Short e = omega (arith, e)
 refused-no Number e = omega (arith, e)
 refused-no Kind e = omega (arith, e)
@@ -83,7 +83,7 @@ module _ (s : List ℕ) where
 
 -- Demands 2 and 3: an accepted sheet.
 module _ {s : List ℕ} {w : Sheet} (ok : Accepted s w) where
-  accepts : Accepts s (sheetAccepted (sheet w))
+  unfoldable pub accepts : Accepts s (sheetAccepted (sheet w))
   unfolding sheetAccepted
   accepts =
       record {

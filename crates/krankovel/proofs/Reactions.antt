@@ -1,17 +1,15 @@
 -- One reaction of an accepted sheet from a state that fits, and runs: what the three engines answer, and that it is what the rules, the
 -- netlist and 004 say.
-use mathlib.Core.Path.{_≡_, refl, sym, ap, _∙_}
-use mathlib.Core.Bool.{Bool, true, false, not, _&&_}
+use mathlib.Core.Path.{_≡_, refl, ap, _∙_}
+use mathlib.Core.Bool.{Bool, true, false, not}
 use mathlib.Core.List.{List, [], _∷_}
 use Prim.Native.Nat.{ℕ, _+_, _^_, _<_, _≤_}
 use native.Mathlib.Omega.{arith}
-use lib.Dec.{ltb, leb}
 use lib.Seq.{sets}
-use borrow.Author.Tests.{leb-true}
 use Rattle.number.specs.declared.SignalNo.{SignalNo}
 use Rattle.number.specs.Counts.{signalNo, ofSignal}
 use Rattle.number.specs.Number.{pick}
-use Rattle.number.proofs.Bools.{and-left, and-right, and-both, off}
+use Rattle.number.proofs.Bools.{and-left, and-right, and-both}
 use Rattle.limits.specs.Limits.{maxSignals}
 use Rattle.bits.specs.Bits.{has, signalsIn, noneFrom, words, width, isWhole, wordsOf, setsIn, columnOf}
 use Rattle.bits.proofs.Whole.{wordsOf-long}
@@ -25,7 +23,7 @@ use Rattle.rules.specs.States.{react, fits}
 use Rattle.cells.specs.Values.{registers}
 use Rattle.cells.specs.Netlist.{Netlist}
 use Rattle.builder.specs.Netlist.{sheetNetlist, sheetFile}
-use Rattle.run.specs.Words.{isOutput, eventOk, stateOk}
+use Rattle.run.specs.Words.{eventOk, stateOk}
 use Rattle.run.specs.Many.{Step, Steps, ended, goes, lastState, each, eventsOk, Ran}
 use Rattle.files.specs.Read.{FileOutcome, netlist, readFile}
 use Rattle.netlists.specs.Words.{judgeCells}
@@ -53,7 +51,7 @@ use Rattle.compile_entries.proofs.CompileEntries.{accepted-few}
 use Rattle.compile_entries.proofs.CellsBack.{sheet-handed-in}
 use Rattle.krankovel.specs.Promise.{Answers, fileOf, cellsOf, ofNetlist, Reacts, HasReaction, Clocks, ended as no-clock}
 use Rattle.krankovel.specs.Promise.{goes as clock, asking, telling, Runs}
-use Rattle.krankovel.proofs.Sets.{small, one-set, one-room, reacted-once}
+use Rattle.krankovel.proofs.Sets.{small, no-output, one-set, one-room, reacted-once}
 use Rattle.krankovel.proofs.Entries.{fitting}
 
 -- what a run leaves in the slices
@@ -157,11 +155,7 @@ module _ {s : List ℕ} {w : Sheet} (ok : Accepted s w) where
     outputs-few = small width (r .outputs) past
       where
         past : (j : ℕ) → width ≤ j → has (r .outputs) j ≡ false
-        past j l = off (has (r .outputs) j) (λ on.
-            let both : (isOutput I O (signalNo j) && E (signalNo j)) ≡ true = sym (r .rules .shows (signalNo j)) ∙ on in
-            let is = and-left (isOutput I O (signalNo j)) (E (signalNo j)) both in
-            let last = leb-true j (I + O) (and-right (ltb I j) (leb j (I + O)) is) in
-            omega (arith, admitted ok .proper .header))
+        past j l = r .rules .shows (signalNo j) ∙ no-output I O j (E (signalNo j)) (omega (arith, admitted ok .proper .header))
 
     event-small : event < 2 ^ width
     event-small =
@@ -264,3 +258,11 @@ module _ {s : List ℕ} {w : Sheet} (ok : Accepted s w) where
         cells = λ signals passed room. many-by-net (asking state events signals passed) all room cells-ok taken (c .nets);
         chain = chained ok all-own fit (c .rules);
       }
+
+  -- the netlist's clocks are that run's
+  pub run-clocks : (state : ℕ) (h : state < 2 ^ width) (fit : fits (has state) t ≡ true) (events : List ℕ) (all : eventsOk I events ≡ true)
+      → let run : Runs s w own state events = runs state h fit events all in
+      Steps (NetClock w) state (setsIn events) (run .outputs) (run .states)
+  unfolding runs
+  run-clocks state h fit events all =
+      course (setsIn events) state h fit (and-right (isWhole events) (each (eventOk I) (setsIn events)) all) .nets

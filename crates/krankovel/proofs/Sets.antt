@@ -1,23 +1,31 @@
 -- Sets of a state's width and their words: what is written reads back, one event in a slice of its own is that event, and a run over it is
 -- a reaction.
 use mathlib.Core.Path.{_≡_, sym, ap, _∙_}
-use mathlib.Core.Bool.{Bool, true, false}
+use mathlib.Core.Bool.{Bool, true, false, _&&_}
 use mathlib.Core.List.{[], _∷_, append-nil}
-use Prim.Native.Nat.{ℕ, zero, suc, _*_, _/_, _^_, _<_, _≤_}
+use Prim.Native.Nat.{ℕ, zero, suc, _+_, _*_, _/_, _^_, _<_, _≤_}
 use native.Mathlib.Omega.{arith}
 use native.Mathlib.Nat.{div-lt-iff-lt-mul}
 use lib.Dec.{leb}
 use lib.Pow.{pow-add, pow-pos}
-use lib.ListN.{length, take}
+use lib.ListN.{length, take, List·getD-eq-default}
 use lib.Seq.{sets, take-all}
 use borrow.Author.Tests.{le-leb}
-use Rattle.number.proofs.Bools.{and-both}
+use Rattle.number.specs.declared.CellNo.{CellNo}
+use Rattle.number.specs.Counts.{signalNo}
+use Rattle.number.proofs.Bools.{and-left, and-both, off}
 use Rattle.bits.specs.Bits.{has, words, width, wholeIn, wordsOf, setsFrom, setsIn, columnOf}
 use Rattle.bits.proofs.Whole.{wordsOf-long}
 use Rattle.bits.proofs.Laws.{ext}
 use Rattle.sets.proofs.Columns.{has-word, word-small}
 use Rattle.sets.specs.Words.{wordOf}
+use Rattle.limits.specs.Limits.{maxRegisters}
+use Rattle.cells.specs.Values.{operands, nextOf}
+use Rattle.cells.specs.Netlist.{Netlist, WellFormed}
+use Rattle.cells.proofs.Counting.{operands-length}
+use Rattle.run.specs.Words.{isOutput}
 use Rattle.run.specs.Many.{lastState}
+use Rattle.covers.proofs.Carrying.{output-last}
 use Rattle.netlist_entries.proofs.CellEntries.{laid-front}
 use Rattle.verdicts.specs.declared.Answer.{Answer}
 use Rattle.verdicts.specs.Answers.{withState, reactionOf}
@@ -29,6 +37,17 @@ pub small : (n w : ℕ) → ((j : ℕ) → n ≤ j → has w j ≡ false) → w 
 small n w none =
     let is : w ≡ wordOf n (has w) = ext w (wordOf n (has w)) (λ j. sym (ap (λ (A : ℕ → Bool). A j) (has-word n (has w) none))) in
     rw is (word-small n (has w))
+
+-- no signal past the last output is one
+pub no-output : (I O j : ℕ) (present : Bool) → I + O < j → (isOutput I O (signalNo j) && present) ≡ false
+no-output I O j present past =
+    off (isOutput I O (signalNo j) && present)
+    (λ on. omega (arith, output-last I O (signalNo j) (and-left (isOutput I O (signalNo j)) present on)))
+
+-- no bit past the last register is one of the next state
+pub no-register : {w : Netlist} → WellFormed w → (v : CellNo → Bool) (b : ℕ) → maxRegisters ≤ b → nextOf v (w .cells) b ≡ false
+no-register {w} sound v b l =
+    List·getD-eq-default (operands v (w .cells)) false {n = b} (omega (arith, operands-length v (w .cells), sound .bits))
 
 -- the words of a set that has no more bits
 whole-back : (k n : ℕ) → n < 2 ^ (64 * k) → wholeIn (wordsOf k n) ≡ n

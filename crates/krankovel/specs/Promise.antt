@@ -38,6 +38,7 @@ use Rattle.netlist_entries.specs.Netlists.{NetChecked, NetReactedMany}
 use Rattle.netlist_entries.specs.Files.{NetWritten}
 use Rattle.netlist_entries.specs.Cells.{NetListed}
 use Rattle.compile_entries.specs.Compile.{Written, Listed}
+use Rattle.cover_entries.specs.Covers.{CoverChecked}
 
 -- The entries by name: the contract of each, its arguments before its answer and, last, what it leaves in a lent slice.
 abbrev pub check : List ℕ → Answer → Type 0
@@ -81,6 +82,12 @@ react-cells I O words state event r = Once (NetReactedMany (judgeCells I O words
 
 abbrev pub react-cells-many : ℕ → ℕ → List ℕ → Asked → Told → Type 0
 react-cells-many I O words ask told = NetReactedMany (judgeCells I O words) ask told
+
+abbrev pub cover-file : List ℕ → List ℕ → Answer → Type 0
+cover-file file cover r = CoverChecked (readFile file) cover r
+
+abbrev pub cover-cells : ℕ → ℕ → List ℕ → List ℕ → Answer → Type 0
+cover-cells I O words cover r = CoverChecked (judgeCells I O words) cover r
 
 -- What an entry answers: its contract allows this answer, and no other.
 pub record Answers {A : Type 0} (entry : A → Type 0) (answer : A) : Type 0 where
@@ -148,6 +155,8 @@ pub record Entries : Type 0 where
   pub of-write-cells : (I O : ℕ) (words buffer : List ℕ) → Lent (λ r. r .number) (write-cells I O words buffer) buffer
   pub of-react-cells : (I O : ℕ) (words : List ℕ) (state event : ℕ) → Returned (react-cells I O words state event) state
   pub of-react-cells-many : (I O : ℕ) (words : List ℕ) (ask : Asked) → LentTwo (react-cells-many I O words) ask
+  pub of-cover-file : (file cover : List ℕ) → Answered (cover-file file cover)
+  pub of-cover-cells : (I O : ℕ) (words cover : List ℕ) → Answered (cover-cells I O words cover)
 
 -- Demand 2. "A program is refused only for the faults the paper lists.": the faults 1 to 11, which `judge` finds, then a cycle; nothing
 -- else.

@@ -1,6 +1,4 @@
 -- The netlist's fault answers; otherwise its cover is judged.
-use mathlib.Core.Path.{_≡_, sym}
-use native.Mathlib.Omega.{arith}
 use Rattle.netlists.specs.Words.{judgeCells}
 use Rattle.netlists.proofs.Running.{cells-ordered}
 use Rattle.netlist_entries.proofs.NetEntries.{net-refused, words-count}
@@ -25,13 +23,29 @@ enum-known-h : tie.Need-enum-known-h
 enum-known-h c = search needs
 
 judged-requires : tie.Need-judged-requires
-judged-requires c κs = (words-formed (c .before .before .before .before .before .before .before .before .args .inputs) (c .before .before .before .before .before .before .before .before .args .outputs) (c .before .before .before .before .before .before .before .before .args .words .now) (rw (c .before .h .given .1) at (c .before .before .before .before .check-cells .ensures)), (_, cells-ordered (c .before .before .before .before .before .before .before .before .args .inputs) (c .before .before .before .before .before .before .before .before .args .outputs) (c .before .before .before .before .before .before .before .before .args .words .now) (rw (c .before .h .given .1) at (c .before .before .before .before .check-cells .ensures))), words-count (c .before .before .before .before .before .before .before .before .args .inputs) (c .before .before .before .before .before .before .before .before .args .outputs) (c .before .before .before .before .before .before .before .before .args .words .now) (rw (c .before .h .given .1) at (c .before .before .before .before .check-cells .ensures)))
+judged-requires c κs =
+    let at-check-cells = c .before .before .before .before in
+    let start = at-check-cells .before .before .before .before in
+    let I = start .args .inputs in
+    let O = start .args .outputs in
+    let words = start .args .words .now in
+    let did = rw (c .before .h .given .1) at (at-check-cells .check-cells .ensures) in
+    (words-formed I O words did, (_, cells-ordered I O words did), words-count I O words did)
 
 returns : tie.Need-returns
-returns c = rw (c .refusal .ensures) (cover-refused {found = judgeCells _ _ _} (net-refused (c .before .before .before .before .before .check-cells .ensures) (c .before .before .f .given .1)))
+returns c =
+    let at-f = c .before .before in
+    let at-check-cells = at-f .before .before .before in
+    let was = net-refused (at-check-cells .check-cells .ensures) (at-f .f .given .1) in
+    rw (c .refusal .ensures) (cover-refused {found = judgeCells _ _ _} was)
 
 returns-2 : tie.Need-returns-2
-returns-2 c = cover-words-checked (c .before .before .before .before .before .before .before .before .before .args .inputs) (c .before .before .before .before .before .before .before .before .before .args .outputs) (c .before .before .before .before .before .before .before .before .before .args .words .now) (rw (c .before .before .h .given .1) at (c .before .before .before .before .before .check-cells .ensures)) (c .judged .ensures)
+returns-2 c =
+    let at-h = c .before .before in
+    let at-check-cells = at-h .before .before .before in
+    let start = at-check-cells .before .before .before .before in
+    let did = rw (at-h .h .given .1) at (at-check-cells .check-cells .ensures) in
+    cover-words-checked (start .args .inputs) (start .args .outputs) (start .args .words .now) did (c .judged .ensures)
 
 pub cover-cells-spec : {M : Type 1} → statement M
 cover-cells-spec =

@@ -1,5 +1,4 @@
 -- The file's fault answers; otherwise its cover is judged.
-use mathlib.Core.Path.{_≡_, sym}
 use native.Mathlib.Omega.{arith}
 use Rattle.netlists.proofs.Running.{file-formed, file-ordered}
 use Rattle.netlist_entries.proofs.NetEntries.{net-refused, file-few}
@@ -31,19 +30,36 @@ cast-m : tie.Need-cast-m
 cast-m c = search needs
 
 array-share-prefix-cells : tie.Need-array-share-prefix-cells
-array-share-prefix-cells c = omega (arith, file-few _ (rw (c .before .before .h .given .1) at (c .before .before .before .before .before .before .check-file .ensures)) (search needs), c .before .before .before .before .before .before .check-file .kept)
+array-share-prefix-cells c =
+    let at-h = c .before .before in
+    let at-check-file = at-h .before .before .before .before in
+    let did = rw (at-h .h .given .1) at (at-check-file .check-file .ensures) in
+    omega (arith, file-few _ did (search needs), at-check-file .check-file .kept)
 
 slice-aggregate-judged : tie.Need-slice-aggregate-judged
-slice-aggregate-judged c = file-whole _ (rw (c .before .before .before .h .given .1) at (c .before .before .before .before .before .before .before .check-file .ensures)) (search needs)
+slice-aggregate-judged c =
+    let at-h = c .before .before .before in
+    let at-check-file = at-h .before .before .before .before in
+    file-whole _ (rw (at-h .h .given .1) at (at-check-file .check-file .ensures)) (search needs)
 
 judged-requires : tie.Need-judged-requires
-judged-requires c κs = (file-formed _ (rw (c .before .before .before .h .given .1) at (c .before .before .before .before .before .before .before .check-file .ensures)) (search needs), (_, file-ordered _ (rw (c .before .before .before .h .given .1) at (c .before .before .before .before .before .before .before .check-file .ensures)) (search needs)), file-whole _ (rw (c .before .before .before .h .given .1) at (c .before .before .before .before .before .before .before .check-file .ensures)) (search needs))
+judged-requires c κs =
+    let at-h = c .before .before .before in
+    let at-check-file = at-h .before .before .before .before in
+    let did = rw (at-h .h .given .1) at (at-check-file .check-file .ensures) in
+    (file-formed _ did (search needs), (_, file-ordered _ did (search needs)), file-whole _ did (search needs))
 
 returns : tie.Need-returns
-returns c = rw (c .refusal .ensures) (cover-refused (net-refused (c .before .before .before .before .before .before .check-file .ensures .check) (c .before .before .f .given .1)))
+returns c =
+    let at-f = c .before .before in
+    let at-check-file = at-f .before .before .before .before in
+    rw (c .refusal .ensures) (cover-refused (net-refused (at-check-file .check-file .ensures .check) (at-f .f .given .1)))
 
 returns-2 : tie.Need-returns-2
-returns-2 c = cover-file-checked _ (rw (c .before .before .before .before .h .given .1) at (c .before .before .before .before .before .before .before .before .check-file .ensures)) (search needs) (c .judged .ensures)
+returns-2 c =
+    let at-h = c .before .before .before .before in
+    let at-check-file = at-h .before .before .before .before in
+    cover-file-checked _ (rw (at-h .h .given .1) at (at-check-file .check-file .ensures)) (search needs) (c .judged .ensures)
 
 pub cover-file-spec : {M : Type 1} → statement M
 cover-file-spec =

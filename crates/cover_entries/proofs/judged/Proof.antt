@@ -1,6 +1,6 @@
 -- `judged` meets its contract: the work columns are as long as a netlist can be and hold zeros; what the check finds is the verdict.
-use mathlib.Core.Path.{_≡_, refl, _∙_}
 use native.Mathlib.Omega.{arith}
+use Rattle.limits.specs.Limits.{maxCells}
 use Rattle.cells.proofs.Words.{cells-length}
 use Rattle.order.proofs.Columns.{blank}
 use Rattle.cover_entries.proofs.Entries.{judgeable, is-right, is-wrong}
@@ -21,13 +21,23 @@ slice-aggregate-check-4 : tie.Need-slice-aggregate-check-4
 slice-aggregate-check-4 c = search needs
 
 check-requires : tie.Need-check-requires
-check-requires c κs = (c .before .before .before .before .before .before .pre .0, judgeable (c .before .before .before .before .before .before .args .cells .now) (c .before .before .before .before .before .before .pre .0) (c .before .before .before .before .before .before .pre .1) (search needs) (search needs) (search needs) (search needs), blank 1024, blank 1024)
+check-requires c κs =
+    let start = c .before .before .before .before .before .before in
+    let formed = start .pre .0 in
+    let cells = start .args .cells .now in (
+      formed,
+      judgeable cells formed (start .pre .1) (search needs) (search needs) (search needs) (search needs),
+      blank maxCells,
+      blank maxCells,
+    )
 
 enum-told : tie.Need-enum-told
 enum-told c = search needs
 
 cast-acceptance : tie.Need-cast-acceptance
-cast-acceptance c = omega (arith, c .before .before .before .before .before .before .before .before .before .before .before .before .before .before .pre .0 .few, cells-length (c .before .before .before .before .before .before .before .before .before .before .before .before .before .before .args .cells .now), c .before .before .before .before .before .before .before .before .before .before .before .before .before .before .pre .2)
+cast-acceptance c =
+    let start = c .before .before .before .before .before .before .before .before .before .before .before .before .before .before in
+    omega (arith, start .pre .0 .few, cells-length (start .args .cells .now), start .pre .2)
 
 acceptance-requires : tie.Need-acceptance-requires
 acceptance-requires c κs = search needs
@@ -39,10 +49,19 @@ refusal-requires : tie.Need-refusal-requires
 refusal-requires c κs = search needs
 
 returns : tie.Need-returns
-returns c = rw (c .acceptance .ensures) (is-right (c .before .before .before .before .before .before .before .before .before .before .before .before .before .before .before .args .cells .now) (c .before .before .before .before .before .before .before .before .before .before .before .before .before .before .before .pre .2) (rw (c .before .before .enum-told .given .1) at (c .before .before .before .before .before .before .before .before .check .ensures)))
+returns c =
+    let at-enum-told = c .before .before in
+    let at-check = at-enum-told .before .before .before .before .before .before in
+    let start = at-check .before .before .before .before .before .before .before in
+    let right = rw (at-enum-told .enum-told .given .1) at (at-check .check .ensures) in
+    rw (c .acceptance .ensures) (is-right (start .args .cells .now) (start .pre .2) right)
 
 returns-2 : tie.Need-returns-2
-returns-2 c = rw (c .refusal .ensures) (is-wrong (c .before .before .before .before .before .before .before .before .before .before .before .before .before .before .before .args .cells .now) (rw (c .before .before .place .given .1) at (c .before .before .before .before .before .before .before .before .check .ensures)))
+returns-2 c =
+    let at-place = c .before .before in
+    let at-check = at-place .before .before .before .before .before .before in
+    let start = at-check .before .before .before .before .before .before .before in
+    rw (c .refusal .ensures) (is-wrong (start .args .cells .now) (rw (at-place .place .given .1) at (at-check .check .ensures)))
 
 pub judged-spec : {M : Type 1} → statement M
 judged-spec =

@@ -1,10 +1,7 @@
 -- `operand_carried` meets its contract: a register has an operand, and no other cell.
 use Prim.Native.Nat.{ℕ}
-use mathlib.Core.Path.{_≡_, sym, _∙_}
+use mathlib.Core.Path.{_≡_}
 use native.Mathlib.Omega.{arith}
-use Rattle.number.specs.declared.CellNo.{CellNo}
-use Rattle.cells.specs.declared.Cell.{Cell}
-use Rattle.cells.specs.declared.Cell.the-variants.{Low, High, Input, Gate, Register}
 use Rattle.covers.proofs.Carrying.{decides-yes, register-carried}
 use borrow.Author.Needs.{needs}
 use Rattle.covers.proofs.operand_carried.Statement.{statement}

@@ -1,6 +1,5 @@
 -- `operands_carried` meets its contract: cell by cell.
 use Prim.Native.Nat.{ℕ, _-_, _<_, _≤_}
-use mathlib.Core.Path.{_≡_, sym, ap, _∙_}
 use mathlib.Core.List.{List}
 use native.Mathlib.Omega.{arith}
 use lib.ListN.{length}
@@ -11,13 +10,17 @@ use Rattle.cells.specs.Words.{cellsOf}
 use Rattle.cells.proofs.Words.{cells-length, read-cell}
 use Rattle.covers.specs.Covers.{tableCount}
 use Rattle.covers.specs.Checking.{Tabled, OperandCarried}
-use Rattle.covers.proofs.Carrying.{decides-yes, decides-no, below-next, operands-all}
+use Rattle.covers.proofs.Carrying.{decides-yes, decides-no, operands-all}
+use borrow.Author.Count.{below-more}
 use borrow.Author.Needs.{needs}
 use Rattle.covers.proofs.operands_carried.Statement.{statement}
 use Rattle.covers.proofs.operands_carried.Tie as tie
 
 abbrev Inv-loop : tie.InvT-loop
-Inv-loop cells tabled x₀ x = (x ≤ length cells) × ((cover : List ℕ) (k : ℕ) → Tabled cover (tableCount cover) k tabled → (i : ℕ) → i < x → OperandCarried (cellsOf cells) (cellAt (cellsOf cells) (cellNo i)) cover)
+Inv-loop cells tabled x₀ x =
+    (x ≤ length cells)
+    × ((cover : List ℕ) (k : ℕ) → Tabled cover (tableCount cover) k tabled → (i : ℕ) → i < x
+    → OperandCarried (cellsOf cells) (cellAt (cellsOf cells) (cellNo i)) cover)
 
 abbrev μ-loop : tie.MeasureT-loop
 μ-loop cells tabled x₀ x = length cells - x
@@ -26,7 +29,9 @@ loop-holds : tie.Need-loop-holds Inv-loop μ-loop
 loop-holds c = (omega arith, λ cover k t q h. absurd (omega arith))
 
 cast-new : tie.Need-cast-new Inv-loop μ-loop
-cast-new c = omega (arith, c .before .before .before .before .pre .0, cells-length (c .before .before .before .before .args .cells .now), c .loop-test .taken)
+cast-new c =
+    let start = c .before .before .before .before in
+    omega (arith, start .pre .0, cells-length (start .args .cells .now), c .loop-test .taken)
 
 new-requires : tie.Need-new-requires Inv-loop μ-loop
 new-requires c κs = search needs
@@ -35,10 +40,20 @@ cell-at-requires : tie.Need-cell-at-requires Inv-loop μ-loop
 cell-at-requires c κs = search needs
 
 operand-carried-requires : tie.Need-operand-carried-requires Inv-loop μ-loop
-operand-carried-requires c κs = c .before .before .before .before .before .before .pre .1
+operand-carried-requires c κs =
+    let start = c .before .before .before .before .before .before in
+    start .pre .1
 
 returns : tie.Need-returns Inv-loop μ-loop
-returns c = λ cover k t. decides-no (λ all. c .before .operand-carried .ensures cover k t .fails (not-on _ (c .if1 .taken)) (rw (read-cell (c .before .before .before .before .before .before .before .before .args .cells .now) (c .before .before .before .before .before .loop .x) (c .before .before .before .new .ensures) (c .before .before .cell-at .ensures)) (all (cellNo (c .before .before .before .before .before .loop .x)))))
+returns c =
+    let at-cell-at = c .before .before in
+    let at-new = at-cell-at .before in
+    let at-loop = at-new .before .before in
+    let start = at-loop .before .before .before in
+    let x = at-loop .loop .x in
+    let read = read-cell (start .args .cells .now) x (at-new .new .ensures) (at-cell-at .cell-at .ensures) in
+    λ cover k t. decides-no (λ all.
+    c .before .operand-carried .ensures cover k t .fails (not-on _ (c .if1 .taken)) (rw read (all (cellNo x))))
 
 add-x : tie.Need-add-x Inv-loop μ-loop
 add-x c = search needs
@@ -47,10 +62,26 @@ loop-less : tie.Need-loop-less Inv-loop μ-loop
 loop-less c = search needs
 
 loop-again : tie.Need-loop-again Inv-loop μ-loop
-loop-again c = (omega (arith, c .before .before .before .before .loop-test .taken), λ cover k t. below-next (λ i. OperandCarried _ (cellAt (cellsOf (c .before .before .before .before .before .before .before .before .args .cells .now)) (cellNo i)) cover) _ (c .before .before .before .before .before .loop .inv .1 cover k t) (rw (read-cell (c .before .before .before .before .before .before .before .before .args .cells .now) (c .before .before .before .before .before .loop .x) (c .before .before .before .new .ensures) (c .before .before .cell-at .ensures)) at (c .before .operand-carried .ensures cover k t .holds (not-off _ (c .if1 .left)))))
+loop-again c =
+    let at-cell-at = c .before .before in
+    let at-new = at-cell-at .before in
+    let at-loop-test = at-new .before in
+    let at-loop = at-loop-test .before in
+    let start = at-loop .before .before .before in
+    let cells = start .args .cells .now in
+    let read = read-cell cells (at-loop .loop .x) (at-new .new .ensures) (at-cell-at .cell-at .ensures) in (
+      omega (arith, at-loop-test .loop-test .taken),
+      λ cover k t.
+          below-more (λ i. OperandCarried _ (cellAt (cellsOf cells) (cellNo i)) cover) _ (at-loop .loop .inv .1 cover k t)
+          (rw read at (c .before .operand-carried .ensures cover k t .holds (not-off _ (c .if1 .left)))),
+    )
 
 returns-2 : tie.Need-returns-2 Inv-loop μ-loop
-returns-2 c = λ cover k t. decides-yes (operands-all _ cover (λ i h. c .before .loop .inv .1 cover k t i (omega (arith, c .loop-test .left, cells-length (c .before .before .before .before .args .cells .now), h))))
+returns-2 c =
+    let start = c .before .before .before .before in
+    let long = cells-length (start .args .cells .now) in
+    λ cover k t.
+    decides-yes (operands-all _ cover (λ i h. c .before .loop .inv .1 cover k t i (omega (arith, c .loop-test .left, long, h))))
 
 pub operands-carried-spec : {M : Type 1} → statement M
 operands-carried-spec =

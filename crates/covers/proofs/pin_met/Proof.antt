@@ -18,10 +18,17 @@ is-constant-requires : tie.Need-is-constant-requires
 is-constant-requires c κs = search needs
 
 returns : tie.Need-returns
-returns c = decides-yes (λ e. absurd (true≢false (sym (ap isConstant (cell-at-word (c .before .before .before .before .before .args .cells .now) (c .before .before .before .before .before .args .x) ∙ sym (c .before .before .cell-at .ensures)) ∙ sym (c .before .is-constant .ensures) ∙ c .if1 .taken) ∙ e)))
+returns c =
+    let at-cell-at = c .before .before in
+    let start = at-cell-at .before .before .before in
+    let cell-is = cell-at-word (start .args .cells .now) (start .args .x) ∙ sym (at-cell-at .cell-at .ensures) in
+    let constant = ap isConstant cell-is ∙ sym (c .before .is-constant .ensures) ∙ c .if1 .taken in
+    decides-yes (λ e. absurd (true≢false (sym constant ∙ e)))
 
 add-result : tie.Need-add-result
-add-result c = let room = c .before .before .before .before .before .pre .0 in search needs
+add-result c =
+    let start = c .before .before .before .before .before in
+    let room = start .pre .0 in search needs
 
 number-requires : tie.Need-number-requires
 number-requires c κs = search needs
@@ -33,10 +40,21 @@ mul-result : tie.Need-mul-result
 mul-result c = search needs
 
 shared-slice-read-result : tie.Need-shared-slice-read-result
-shared-slice-read-result c = omega (arith, c .before .number .ensures, c .before .before .before .before .before .before .before .pre .1)
+shared-slice-read-result c =
+    let start = c .before .before .before .before .before .before .before in
+    omega (arith, c .before .number .ensures, start .pre .1)
 
 returns-2 : tie.Need-returns-2
-returns-2 c = rw (c .before .number .ensures) (known-test (cellsOf (c .before .before .before .before .before .before .before .args .cells .now)) (c .before .before .before .before .before .before .before .args .base) (c .before .before .before .before .before .before .before .args .marks .now) (c .before .before .before .before .before .before .before .args .x) (ap isConstant (cell-at-word (c .before .before .before .before .before .before .before .args .cells .now) (c .before .before .before .before .before .before .before .args .x) ∙ sym (c .before .before .before .before .cell-at .ensures)) ∙ sym (c .before .before .before .is-constant .ensures) ∙ c .before .before .if1 .left))
+returns-2 c =
+    let at-if1 = c .before .before in
+    let at-is-constant = at-if1 .before in
+    let at-cell-at = at-is-constant .before in
+    let start = at-cell-at .before .before .before in
+    let cells = start .args .cells .now in
+    let x = start .args .x in
+    let cell-is = cell-at-word cells x ∙ sym (at-cell-at .cell-at .ensures) in
+    let other = ap isConstant cell-is ∙ sym (at-is-constant .is-constant .ensures) ∙ at-if1 .if1 .left in
+    rw (c .before .number .ensures) (known-test (cellsOf cells) (start .args .base) (start .args .marks .now) x other)
 
 pub pin-met-spec : {M : Type 1} → statement M
 pin-met-spec =

@@ -1,6 +1,6 @@
 -- `pins_at` meets its contract: with each turn one pin more is read.
 use Prim.Native.Nat.{_-_}
-use mathlib.Core.Path.{_≡_, refl}
+use mathlib.Core.Path.{refl}
 use native.Mathlib.Omega.{arith}
 use Rattle.tables.specs.Answering as Answering
 use Rattle.covers.proofs.Reading.{PinsRead, pins-more, pins-all}
@@ -48,7 +48,10 @@ loop-less : tie.Need-loop-less Inv-loop μ-loop
 loop-less c = search needs
 
 loop-again : tie.Need-loop-again Inv-loop μ-loop
-loop-again c = pins-more _ (c .before .before .loop-test .taken) (c .new2 .ensures) (c .before .before .before .loop .inv)
+loop-again c =
+    let at-loop-test = c .before .before in
+    let at-loop = at-loop-test .before in
+    pins-more _ (at-loop-test .loop-test .taken) (c .new2 .ensures) (at-loop .loop .inv)
 
 returns : tie.Need-returns Inv-loop μ-loop
 returns c = pins-all (omega (arith, c .loop-test .left)) (c .before .loop .inv)

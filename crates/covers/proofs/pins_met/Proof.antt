@@ -6,7 +6,8 @@ use Rattle.tables.specs.Answering.{pins}
 use Rattle.cells.specs.Words.{cellsOf}
 use Rattle.cuts.specs.Cut.{pinAt}
 use Rattle.covers.specs.Checking.{PinKnown}
-use Rattle.covers.proofs.Carrying.{decides-yes, decides-no, below-next}
+use Rattle.covers.proofs.Carrying.{decides-yes, decides-no}
+use borrow.Author.Count.{below-more}
 use borrow.Author.Needs.{needs}
 use Rattle.covers.proofs.pins_met.Statement.{statement}
 use Rattle.covers.proofs.pins_met.Tie as tie
@@ -27,10 +28,17 @@ array-copy-out-x : tie.Need-array-copy-out-x Inv-loop μ-loop
 array-copy-out-x c = search needs
 
 pin-met-requires : tie.Need-pin-met-requires Inv-loop μ-loop
-pin-met-requires c κs = (c .before .before .before .before .before .pre .0, c .before .before .before .before .before .pre .1 (c .before .before .loop .p) (c .before .loop-test .taken))
+pin-met-requires c κs =
+    let at-loop = c .before .before in
+    let start = at-loop .before .before .before in
+    (start .pre .0, start .pre .1 (at-loop .loop .p) (c .before .loop-test .taken))
 
 returns : tie.Need-returns Inv-loop μ-loop
-returns c = decides-no (λ all. c .before .pin-met .ensures .fails (not-on _ (c .if1 .taken)) (all (c .before .before .before .before .loop .p) (c .before .before .before .loop-test .taken)))
+returns c =
+    let at-loop-test = c .before .before .before in
+    let at-loop = at-loop-test .before in
+    let here = at-loop-test .loop-test .taken in
+    decides-no (λ all. c .before .pin-met .ensures .fails (not-on _ (c .if1 .taken)) (all (at-loop .loop .p) here))
 
 add-p : tie.Need-add-p Inv-loop μ-loop
 add-p c = search needs
@@ -39,7 +47,14 @@ loop-less : tie.Need-loop-less Inv-loop μ-loop
 loop-less c = search needs
 
 loop-again : tie.Need-loop-again Inv-loop μ-loop
-loop-again c = (omega arith, below-next (λ q. PinKnown (cellsOf (c .before .before .before .before .before .before .before .args .cells .now)) (c .before .before .before .before .before .before .before .args .base) (c .before .before .before .before .before .before .before .args .marks .now) (pinAt (c .before .before .before .before .before .before .before .args .t4) q)) _ (c .before .before .before .before .loop .inv .1) (c .before .pin-met .ensures .holds (not-off _ (c .if1 .left))))
+loop-again c =
+    let at-loop = c .before .before .before .before in
+    let start = at-loop .before .before .before in
+    let cells = cellsOf (start .args .cells .now) in (
+      omega arith,
+      below-more (λ q. PinKnown cells (start .args .base) (start .args .marks .now) (pinAt (start .args .t4) q)) _ (at-loop .loop .inv .1)
+          (c .before .pin-met .ensures .holds (not-off _ (c .if1 .left))),
+    )
 
 returns-2 : tie.Need-returns-2 Inv-loop μ-loop
 returns-2 c = decides-yes (λ p h. c .before .loop .inv .1 p (omega (arith, c .loop-test .left)))

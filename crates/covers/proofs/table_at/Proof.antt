@@ -1,5 +1,4 @@
 -- `table_at` meets its contract: the numbers of table k lie in the cover.
-use mathlib.Core.Path.{_≡_, refl}
 use native.Mathlib.Omega.{arith}
 use borrow.Author.Needs.{needs}
 use Rattle.covers.proofs.table_at.Statement.{statement}
@@ -12,31 +11,46 @@ mul-new : tie.Need-mul-new
 mul-new c = omega (arith, c .before .pre)
 
 shared-slice-read-new : tie.Need-shared-slice-read-new
-shared-slice-read-new c = omega (arith, c .before .before .pre)
+shared-slice-read-new c =
+    let start = c .before .before in
+    omega (arith, start .pre)
 
 new-requires : tie.Need-new-requires
 new-requires c κs = search needs
 
 pins-at-requires : tie.Need-pins-at-requires
-pins-at-requires c κs = omega (arith, c .before .before .before .pre)
+pins-at-requires c κs =
+    let start = c .before .before .before in
+    omega (arith, start .pre)
 
 add-new : tie.Need-add-new
-add-new c = omega (arith, c .before .before .before .before .pre)
+add-new c =
+    let start = c .before .before .before .before in
+    omega (arith, start .pre)
 
 add-new-2 : tie.Need-add-new-2
-add-new-2 c = omega (arith, c .before .before .before .before .pre)
+add-new-2 c =
+    let start = c .before .before .before .before in
+    omega (arith, start .pre)
 
 mul-new-2 : tie.Need-mul-new-2
-mul-new-2 c = omega (arith, c .before .before .before .before .pre)
+mul-new-2 c =
+    let start = c .before .before .before .before in
+    omega (arith, start .pre)
 
 shared-slice-read-new-2 : tie.Need-shared-slice-read-new-2
-shared-slice-read-new-2 c = omega (arith, c .before .before .before .before .before .pre)
+shared-slice-read-new-2 c =
+    let start = c .before .before .before .before .before in
+    omega (arith, start .pre)
 
 new-requires-2 : tie.Need-new-requires-2
 new-requires-2 c κs = search needs
 
 returns : tie.Need-returns
-returns c = rw (c .new2 .ensures, c .before .before .before .new .ensures, c .before .before .pins-at .ensures)
+returns c =
+    let at-pins-at = c .before .before in
+    let at-new = at-pins-at .before in
+    rw (c .new2 .ensures, at-new .new .ensures, at-pins-at .pins-at .ensures)
 
 pub table-at-spec : {M : Type 1} → statement M
 table-at-spec =

@@ -1,6 +1,5 @@
 -- `table_right` meets its contract: what makes a table wrong by itself, and then what it cuts out.
-use mathlib.Core.Path.{_≡_, sym, ap, _∙_, subst}
-use mathlib.Core.Bool.{Bool}
+use mathlib.Core.Path.{sym, ap, _∙_, subst}
 use native.Mathlib.Omega.{arith}
 use Rattle.number.proofs.Bools.{not-on, not-off}
 use Rattle.cells.specs.Words.{cellsOf}
@@ -19,7 +18,12 @@ is-gate-requires : tie.Need-is-gate-requires
 is-gate-requires c κs = search needs
 
 returns : tie.Need-returns
-returns c = judged-no (no-gate (c .before .before .before .before .before .before .before .before .before .before .args .t) (ap isGate (cell-at-word (c .before .before .before .before .before .before .before .before .before .before .args .cells .now) (c .before .before .before .before .before .before .before .before .before .before .args .t .cell) ∙ sym (c .before .before .cell-at .ensures)) ∙ sym (c .before .is-gate .ensures) ∙ not-on _ (c .if1 .taken)))
+returns c =
+    let at-cell-at = c .before .before in
+    let start = at-cell-at .before .before .before .before .before .before .before .before in
+    let t = start .args .t in
+    let cell-is = cell-at-word (start .args .cells .now) (t .cell) ∙ sym (at-cell-at .cell-at .ensures) in
+    judged-no (no-gate t (ap isGate cell-is ∙ sym (c .before .is-gate .ensures) ∙ not-on _ (c .if1 .taken)))
 
 number-requires : tie.Need-number-requires
 number-requires c κs = search needs
@@ -28,19 +32,49 @@ cast-if2 : tie.Need-cast-if2
 cast-if2 c = search needs
 
 shared-slice-read-if2 : tie.Need-shared-slice-read-if2
-shared-slice-read-if2 c = omega (arith, c .before .number .ensures, gate-cell (cellsOf (c .before .before .before .before .before .before .before .before .before .before .before .before .args .cells .now)) (c .before .before .before .before .before .before .before .before .before .before .before .before .args .t .cell) (ap isGate (cell-at-word (c .before .before .before .before .before .before .before .before .before .before .before .before .args .cells .now) (c .before .before .before .before .before .before .before .before .before .before .before .before .args .t .cell) ∙ sym (c .before .before .before .before .cell-at .ensures)) ∙ sym (c .before .before .before .is-gate .ensures) ∙ not-off _ (c .before .before .if1 .left)), c .before .before .before .before .before .before .before .before .before .before .before .before .pre .1 .listed)
+shared-slice-read-if2 c =
+    let at-if1 = c .before .before in
+    let at-is-gate = at-if1 .before in
+    let at-cell-at = at-is-gate .before in
+    let start = at-cell-at .before .before .before .before .before .before .before .before in
+    let t = start .args .t in
+    let cell-is = cell-at-word (start .args .cells .now) (t .cell) ∙ sym (at-cell-at .cell-at .ensures) in
+    let gate = ap isGate cell-is ∙ sym (at-is-gate .is-gate .ensures) ∙ not-off _ (at-if1 .if1 .left) in
+    let is = gate-cell (cellsOf (start .args .cells .now)) (t .cell) gate in
+    omega (arith, c .before .number .ensures, is, start .pre .1 .listed)
 
 returns-2 : tie.Need-returns-2
-returns-2 c = judged-no (second (c .before .before .before .before .before .before .before .before .before .before .before .before .before .args .t) (rw (c .before .before .number .ensures) at (c .if2 .taken)))
+returns-2 c =
+    let at-number = c .before .before in
+    let start = at-number .before .before .before .before .before .before .before .before .before .before .before in
+    judged-no (second (start .args .t) (rw (at-number .number .ensures) at (c .if2 .taken)))
 
 pins-carried-requires : tie.Need-pins-carried-requires
-pins-carried-requires c κs = c .before .before .before .before .before .before .before .before .before .before .before .before .before .pre .1 .listed
+pins-carried-requires c κs =
+    let start = c .before .before .before .before .before .before .before .before .before .before .before .before .before in
+    start .pre .1 .listed
 
 returns-3 : tie.Need-returns-3
-returns-3 c = judged-no (no-pins (c .before .before .before .before .before .before .before .before .before .before .before .before .before .before .before .args .t) (subst (Says (c .before .before .before .before .before .before .before .before .before .before .before .before .before .before .before .args .tabled .now) (PinsCarried (cellsOf (c .before .before .before .before .before .before .before .before .before .before .before .before .before .before .before .args .cells .now)) (c .before .before .before .before .before .before .before .before .before .before .before .before .before .before .before .args .t .pins))) (not-on _ (c .if3 .taken)) (c .before .pins-carried .ensures)))
+returns-3 c =
+    let start = c .before .before .before .before .before .before .before .before .before .before .before .before .before .before .before in
+    let t = start .args .t in
+    let Carry = Says (start .args .tabled .now) (PinsCarried (cellsOf (start .args .cells .now)) (t .pins)) in
+    judged-no (no-pins t (subst Carry (not-on _ (c .if3 .taken)) (c .before .pins-carried .ensures)))
 
 cut-right-requires : tie.Need-cut-right-requires
-cut-right-requires c κs = (c .before .before .before .before .before .before .before .before .before .before .before .before .before .before .before .before .before .before .pre .0, c .before .before .before .before .before .before .before .before .before .before .before .before .before .before .before .before .before .before .pre .1 .closed, c .before .before .before .before .before .before .before .before .before .before .before .before .before .before .before .before .before .before .pre .1 .order, c .before .before .before .before .before .before .before .before .before .before .before .before .before .before .before .before .before .before .pre .1 .lent, c .before .before .before .before .before .before .before .before .before .before .before .before .before .before .before .before .before .before .pre .2, (ap isGate (cell-at-word (c .before .before .before .before .before .before .before .before .before .before .before .before .before .before .before .before .before .before .args .cells .now) (c .before .before .before .before .before .before .before .before .before .before .before .before .before .before .before .before .before .before .args .t .cell) ∙ sym (c .before .before .before .before .before .before .before .before .before .before .cell-at .ensures)) ∙ sym (c .before .before .before .before .before .before .before .before .before .is-gate .ensures) ∙ not-off _ (c .before .before .before .before .before .before .before .before .if1 .left)), λ p h. c .before .before .before .before .pins-carried .ensures (c .before .before .before .before .before .before .before .before .before .before .before .before .before .before .before .before .before .before .pre .3 .0) (c .before .before .before .before .before .before .before .before .before .before .before .before .before .before .before .before .before .before .pre .3 .1) (c .before .before .before .before .before .before .before .before .before .before .before .before .before .before .before .before .before .before .pre .3 .2) .holds (not-off _ (c .before .before .before .if3 .left)) p h .cell)
+cut-right-requires c κs =
+    let at-if3 = c .before .before .before in
+    let at-pins-carried = at-if3 .before in
+    let at-if1 = at-pins-carried .before .before .before .before in
+    let at-is-gate = at-if1 .before in
+    let at-cell-at = at-is-gate .before in
+    let start = at-cell-at .before .before .before .before .before .before .before .before in
+    let t = start .args .t in
+    let cell-is = cell-at-word (start .args .cells .now) (t .cell) ∙ sym (at-cell-at .cell-at .ensures) in
+    let pre = start .pre in
+    let gate = ap isGate cell-is ∙ sym (at-is-gate .is-gate .ensures) ∙ not-off _ (at-if1 .if1 .left) in
+    let carry = at-pins-carried .pins-carried .ensures (pre .3 .0) (pre .3 .1) (pre .3 .2) .holds (not-off _ (at-if3 .if3 .left)) in
+    (pre .0, pre .1 .closed, pre .1 .order, pre .1 .lent, pre .2, gate, λ p h. carry p h .cell)
 
 same-length : tie.Need-same-length
 same-length c = search needs
@@ -52,7 +86,24 @@ same-length-3 : tie.Need-same-length-3
 same-length-3 c = search needs
 
 returns-4 : tie.Need-returns-4
-returns-4 c = judged-cut (c .before .before .before .before .before .before .before .before .before .before .before .before .before .before .before .before .before .before .before .before .before .before .before .before .before .args .t) (c .before .before .before .before .before .before .before .before .before .before .before .before .before .before .before .before .before .before .before .before .before .before .before .before .before .pre .1 .listed) (ap isGate (cell-at-word (c .before .before .before .before .before .before .before .before .before .before .before .before .before .before .before .before .before .before .before .before .before .before .before .before .before .args .cells .now) (c .before .before .before .before .before .before .before .before .before .before .before .before .before .before .before .before .before .before .before .before .before .before .before .before .before .args .t .cell) ∙ sym (c .before .before .before .before .before .before .before .before .before .before .before .before .before .before .before .before .before .cell-at .ensures)) ∙ sym (c .before .before .before .before .before .before .before .before .before .before .before .before .before .before .before .before .is-gate .ensures) ∙ not-off _ (c .before .before .before .before .before .before .before .before .before .before .before .before .before .before .before .if1 .left)) (rw (c .before .before .before .before .before .before .before .before .before .before .before .before .before .before .number .ensures) at (c .before .before .before .before .before .before .before .before .before .before .before .before .if2 .left)) (subst (Says (c .before .before .before .before .before .before .before .before .before .before .before .before .before .before .before .before .before .before .before .before .before .before .before .before .before .args .tabled .now) (PinsCarried (cellsOf (c .before .before .before .before .before .before .before .before .before .before .before .before .before .before .before .before .before .before .before .before .before .before .before .before .before .args .cells .now)) (c .before .before .before .before .before .before .before .before .before .before .before .before .before .before .before .before .before .before .before .before .before .before .before .before .before .args .t .pins))) (not-off _ (c .before .before .before .before .before .before .before .before .before .before .if3 .left)) (c .before .before .before .before .before .before .before .before .before .before .before .pins-carried .ensures)) (c .before .before .before .before .before .before .cut-right .ensures .0) (c .before .before .before .before .before .before .cut-right .ensures .1)
+returns-4 c =
+    let at-cut-right = c .before .before .before .before .before .before in
+    let at-if3 = at-cut-right .before .before .before .before in
+    let at-pins-carried = at-if3 .before in
+    let at-if2 = at-pins-carried .before in
+    let at-number = at-if2 .before .before in
+    let at-if1 = at-number .before in
+    let at-is-gate = at-if1 .before in
+    let at-cell-at = at-is-gate .before in
+    let start = at-cell-at .before .before .before .before .before .before .before .before in
+    let t = start .args .t in
+    let cell-is = cell-at-word (start .args .cells .now) (t .cell) ∙ sym (at-cell-at .cell-at .ensures) in
+    let gate = ap isGate cell-is ∙ sym (at-is-gate .is-gate .ensures) ∙ not-off _ (at-if1 .if1 .left) in
+    let once = rw (at-number .number .ensures) at (at-if2 .if2 .left) in
+    let Carry = Says (start .args .tabled .now) (PinsCarried (cellsOf (start .args .cells .now)) (t .pins)) in
+    let carry = subst Carry (not-off _ (at-if3 .if3 .left)) (at-pins-carried .pins-carried .ensures) in
+    let cut = at-cut-right .cut-right .ensures in
+    judged-cut t (start .pre .1 .listed) gate once carry (cut .0) (cut .1)
 
 pub table-right-spec : {M : Type 1} → statement M
 table-right-spec =

@@ -26,13 +26,28 @@ enum-told-3 : tie.Need-enum-told-3
 enum-told-3 c = search needs
 
 returns : tie.Need-returns
-returns c = λ k h. bit-or (c .before .before .args .a) (c .before .before .args .b) k ∙ ap (λ g. truth g (bit (c .before .before .args .a) k) (bit (c .before .before .args .b) k)) (sym (c .enum-told .given .1))
+returns c =
+    let start = c .before .before in
+    let a = start .args .a in
+    let b = start .args .b in
+    λ k h. bit-or a b k ∙ ap (λ g. truth g (bit a k) (bit b k)) (sym (c .enum-told .given .1))
 
 returns-2 : tie.Need-returns-2
-returns-2 c = λ k h. bit-and (c .before .before .args .a) (c .before .before .args .b) k ∙ ap (λ g. truth g (bit (c .before .before .args .a) k) (bit (c .before .before .args .b) k)) (sym (c .enum-told2 .given .1))
+returns-2 c =
+    let start = c .before .before in
+    let a = start .args .a in
+    let b = start .args .b in
+    λ k h. bit-and a b k ∙ ap (λ g. truth g (bit a k) (bit b k)) (sym (c .enum-told2 .given .1))
 
 returns-3 : tie.Need-returns-3
-returns-3 c = λ k h. bit-and (c .before .before .args .a) (2 ^ settings - 1 - c .before .before .args .b) k ∙ ap (λ x. bit (c .before .before .args .a) k && x) (bit-not settings (c .before .before .args .b) k (search needs) h) ∙ ap (λ g. truth g (bit (c .before .before .args .a) k) (bit (c .before .before .args .b) k)) (sym (c .enum-told3 .given .1))
+returns-3 c =
+    let start = c .before .before in
+    let a = start .args .a in
+    let b = start .args .b in
+    λ k h.
+    bit-and a (2 ^ settings - 1 - b) k
+    ∙ ap (λ x. bit a k && x) (bit-not settings b k (search needs) h)
+    ∙ ap (λ g. truth g (bit a k) (bit b k)) (sym (c .enum-told3 .given .1))
 
 pub gate-word-spec : {M : Type 1} → statement M
 gate-word-spec = tie.close (tie.spec enum-told enum-told-2 enum-told-3 returns returns-2 returns-3)

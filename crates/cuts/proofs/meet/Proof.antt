@@ -17,7 +17,9 @@ slice-read-if1 : tie.Need-slice-read-if1
 slice-read-if1 c = search needs
 
 returns : tie.Need-returns
-returns c = new (rw (c .before .before .number .ensures) at (c .if1 .taken))
+returns c =
+    let at-number = c .before .before in
+    new (rw (at-number .number .ensures) at (c .if1 .taken))
 
 add-marks : tie.Need-add-marks
 add-marks c = search needs
@@ -32,7 +34,9 @@ same-length : tie.Need-same-length
 same-length c = search needs
 
 returns-2 : tie.Need-returns-2
-returns-2 c = rw (c .before .before .number .ensures) (known (rw (c .before .before .number .ensures) at (c .if1 .left)))
+returns-2 c =
+    let at-number = c .before .before in
+    rw (at-number .number .ensures) (known (rw (at-number .number .ensures) at (c .if1 .left)))
 
 pub meet-spec : {M : Type 1} → statement M
 meet-spec =

@@ -27,7 +27,10 @@ alike-requires : tie.Need-alike-requires
 alike-requires c κs = search needs
 
 returns : tie.Need-returns
-returns c = again (rw (c .before .before .before .before .number .ensures) at (c .before .before .if1 .taken)) (rw (c .before .before .before .before .number .ensures) at (c .alike .ensures))
+returns c =
+    let at-if1 = c .before .before in
+    let at-number = at-if1 .before .before in
+    again (rw (at-number .number .ensures) at (at-if1 .if1 .taken)) (rw (at-number .number .ensures) at (c .alike .ensures))
 
 add-marks : tie.Need-add-marks
 add-marks c = search needs
@@ -51,7 +54,9 @@ same-length-2 : tie.Need-same-length-2
 same-length-2 c = search needs
 
 returns-2 : tie.Need-returns-2
-returns-2 c = rw (c .before .before .number .ensures) (first (rw (c .before .before .number .ensures) at (c .if1 .left)) ones)
+returns-2 c =
+    let at-number = c .before .before in
+    rw (at-number .number .ensures) (first (rw (at-number .number .ensures) at (c .if1 .left)) ones)
 
 pub set-pin-spec : {M : Type 1} → statement M
 set-pin-spec =
