@@ -9,6 +9,7 @@ use Rattle.texts.specs.declared.Value.{Value}
 use Rattle.texts.specs.Bytes.{bytes}
 use Rattle.answers.specs.Words.{wordEnd}
 use Rattle.answers.specs.Questions.{longest, firstWord, afterWord, oneWord, bytesIn, setIn, of, ofBytes}
+use Rattle.answers.specs.Questions.{orderIn, numbersIn, ofTables, oneTable, order, aboutOrder}
 use Rattle.answers.specs.Questions.{aboutBytes, aboutReaction, behindBytes, withBytes, asked, question}
 use Rattle.answers.proofs.Blanks.{rest-is}
 
@@ -50,6 +51,14 @@ module _ (text : List ℕ) (end : ℕ) (is : end ≡ wordEnd text) where
     pub with-more : end < length text → withBytes word text s ≡ behindBytes word s (left text end)
     unfolding withBytes
     with-more h = rw (more-words h) (ap (behindBytes word s) (sym left-is))
+
+  -- an order, and what follows it
+  pub order-then : {x : Value} → end < length text → orderIn (take end text) ≡ x
+      → aboutOrder text ≡ of x (λ n. ofTables (numbersIn (left text end)) (oneTable (order n)))
+  unfolding aboutOrder
+  order-then h is-x =
+      rw (more-words h)
+      (ap₂ (λ (a : Value) (l : List ℕ). of a (λ n. ofTables (numbersIn l) (oneTable (order n)))) (sym (ap orderIn first-is) ∙ is-x) (sym left-is))
 
   -- a question's word, and what follows it
   pub question-is : length text ≤ longest → end < length text → question text ≡ asked (take end text) (left text end)

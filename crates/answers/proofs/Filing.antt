@@ -37,8 +37,8 @@ use Rattle.compile_entries.proofs.CompileEntries.{prefix-long}
 use Rattle.texts.specs.Puts.{Puts}
 use Rattle.answers.specs.Questions.{room, write}
 use Rattle.answers.specs.Texts.{fileText, noFileText, writtenText}
-use Rattle.answers.specs.Answering.{Lends, is-written, Says}
-use Rattle.answers.specs.Code.{FileSaid}
+use Rattle.answers.specs.Answering.{Lends, is-written}
+use Rattle.answers.specs.Code.{Says, FileSaid}
 use Rattle.answers.proofs.Saying.{said}
 
 module _ {w : Netlist} {lent lent′ : List ℕ} where

@@ -7,7 +7,8 @@ use Rattle.texts.specs.Puts.{Puts}
 use Rattle.texts.proofs.Putting.{Joins}
 use Rattle.answers.specs.Questions.{Question, none}
 use Rattle.answers.specs.Texts.{parts}
-use Rattle.answers.specs.Answering.{Answers, no-question, Says}
+use Rattle.answers.specs.Answering.{Answers, no-question}
+use Rattle.answers.specs.Code.{Says}
 
 pub said : {q : Question} {n : ℕ} {text out out′ : List ℕ} → Answers q text → Puts text 0 n out out′ → Says q n out out′
 said a p = record { text = _; answers = a; written = p }

@@ -1,8 +1,8 @@
 -- What is answered: to each question the text of what its entry answers.
-use Prim.Native.Nat.{ℕ, min}
+use Prim.Native.Nat.{ℕ, _≤_, min}
 use mathlib.Core.Path.{_≡_}
 use mathlib.Core.List.{List}
-use lib.ListN.{length}
+use lib.ListN.{length, take}
 use Rattle.bits.specs.Bits.{has}
 use Rattle.sheet.specs.Read.{readSheet}
 use Rattle.rules.specs.States.{atRest}
@@ -14,13 +14,13 @@ use Rattle.sheet_entries.specs.Sheets.{readingOf, Checked, Fitting, ReactedMany
 use Rattle.netlist_entries.specs.Netlists.{NetChecked, NetReactedMany}
 use Rattle.netlist_entries.specs.Files.{fileOf, writeVerdict}
 use Rattle.compile_entries.specs.Compile.{sheetNet, Written}
-use Rattle.tables.specs.declared.Table.{Table}
+use Rattle.cover_entries.specs.Covers.{CoverChecked}
+use Rattle.covers.specs.Covers.{tableAt}
 use Rattle.tables.specs.declared.Reordered.{Reordered}
 use Rattle.tables.specs.Reordering.{Reorders}
 use Rattle.texts.specs.Written.{badText}
-use Rattle.texts.specs.Puts.{Puts}
 use Rattle.answers.specs.Questions.{Question, room, question}
-use Rattle.answers.specs.Questions.{rest, read, check, file, fits, write, react, reactfile, order, none}
+use Rattle.answers.specs.Questions.{rest, read, check, file, fits, write, react, reactfile, cover, order, none}
 use Rattle.answers.specs.Texts.{restText, readingText, answerText, writtenText, reactionText, orderText}
 
 -- "that many bytes are lent, 8,192 where it is more"
@@ -39,11 +39,14 @@ pub data Answers : Question → List ℕ → Type 0 where
   reacts : {s : List ℕ} {state event : ℕ} {r : Reaction} → Once (ReactedMany s) state event r → Answers (react s state event) (reactionText r)
   file-reacts : {s : List ℕ} {state event : ℕ} {r : Reaction} → Once (NetReactedMany (readFile s)) state event r
       → Answers (reactfile s state event) (reactionText r)
-  no-order : {text : List ℕ} → Answers (order text) badText
-  is-ordered : {text : List ℕ} {n : ℕ} {t : Table} {r : Reordered} → Reorders n t r → Answers (order text) (orderText r)
+  is-covered : {s tables : List ℕ} {r : Answer} → CoverChecked (readFile s) tables r → Answers (cover s tables) (answerText r)
+  is-ordered : {n : ℕ} {table : List ℕ} {r : Reordered} → Reorders n (tableAt table 0) r → Answers (order n table) (orderText r)
 
--- the answer stands at the buffer's start, with its length
-pub record Says (q : Question) (length : ℕ) (out out′ : List ℕ) : Type 0 where
-  pub text : List ℕ
-  pub answers : Answers q text
-  pub written : Puts text 0 length out out′
+-- The longest answer has four numbers of 20 digits, and a file in hex of as many bytes as are lent at most. That none is longer is proved.
+abbrev pub longestAnswer : ℕ
+longestAnswer = 16512
+
+-- the answer is the buffer's first bytes
+pub record Told (q : Question) (n : ℕ) (out′ : List ℕ) : Type 0 where
+  pub answers : Answers q (take n out′)
+  pub within : n ≤ length out′

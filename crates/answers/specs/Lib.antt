@@ -1,4 +1,5 @@
 pub mod Words
+pub mod Tables
 pub mod Questions
 pub mod Texts
 pub mod Answering

@@ -1,10 +1,14 @@
--- The words of a question.
+-- The words of a question, and the parts of a text.
 use Prim.Native.Nat.{ℕ, suc}
 use mathlib.Core.Bool.{cond}
 use mathlib.Core.List.{List, [], _∷_}
 use lib.Dec.{eqb}
+use Rattle.texts.specs.Written.{blank}
 
--- where the first word ends: at the first blank, or at the end of the text
-unfoldable pub wordEnd : List ℕ → ℕ
-wordEnd [] = 0
-wordEnd (b ∷ bs) = cond (eqb b 32) 0 (suc (wordEnd bs))
+-- where the first part ends: at the first such sign, or at the end of the text
+unfoldable pub partEnd : ℕ → List ℕ → ℕ
+partEnd sign [] = 0
+partEnd sign (b ∷ bs) = cond (eqb b sign) 0 (suc (partEnd sign bs))
+
+abbrev pub wordEnd : List ℕ → ℕ
+wordEnd text = partEnd blank text

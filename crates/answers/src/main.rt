@@ -1,5 +1,6 @@
 // Answers questions, a line each, on standard output, a line each. A line that is no question answers `bad line`. `questions::answer_line` has each answer as its
 // contract; reading and writing are the system's.
+mod numbers;
 mod order;
 mod output;
 mod questions;
@@ -16,7 +17,7 @@ const LINE: usize = 16385;
 // The bytes of one read.
 const READ: usize = 1024;
 
-// The longest answer has a file of 8,192 bytes in hex, and numbers.
+// No answer is longer.
 const OUT: usize = 16512;
 
 // The bytes at hand after a line, or after a read where one is wanted, and whether to go on.
@@ -27,8 +28,7 @@ struct After {
 
 fn print_answer(line: &[u8]) {
     let mut out = [0u8; OUT];
-    let length = questions::answer_line(line, &mut out);
-    let n = texts::within(length, &out);
+    let n = questions::answer_line(line, &mut out);
     io::write_all(STDOUT_FILENO, &out[..n]);
 }
 

@@ -1,4 +1,5 @@
 // The questions. A line is the question's word, then the words it asks about, one blank between them.
+use crate::numbers;
 use crate::order;
 use crate::output;
 use crate::words;
@@ -15,8 +16,8 @@ ghost use Rattle.cells.specs.Netlist.{netlistOf, WellFormed};
 ghost use Rattle.verdicts.specs.Answers.{acceptance};
 ghost use Rattle.io.specs.Counts.{Counts};
 ghost use Rattle.answers.specs.Questions as Questions;
-ghost use Rattle.answers.specs.Answering.{Lends, Says};
-ghost use Rattle.answers.specs.Code.{FileSaid};
+ghost use Rattle.answers.specs.Answering.{Lends, longestAnswer, Told};
+ghost use Rattle.answers.specs.Code.{Says, FileSaid};
 
 // The bytes of a sheet or a file that are read, and of a file that are lent.
 const ROOM: usize = 8192;
@@ -109,6 +110,22 @@ fn answer_write(bytes: &[u8], text: &[u8], out: &mut [u8]) -> usize
     write_file(bytes, &mut buffer[..end], out)
 }
 
+// cover HEX TABLES
+fn answer_cover(bytes: &[u8], text: &[u8], out: &mut [u8]) -> usize
+    ensures { λ r. ⌜ Says (Questions.ofTables (Questions.tablesIn (now (text .entry))) (Questions.cover (now (bytes .entry)))) r (now (out .entry)) (now (out .exit)) ⌝ }
+{
+    let mut row = [0u16; numbers::ROOM];
+    if texts::same(text, b"-") {
+        return output::answer(krankovel::cover_file(bytes, &row[..0]), out);
+    }
+    let read = numbers::read(text, &mut row);
+    if !read.good {
+        return output::bad_line(out);
+    }
+    let n = read.len;
+    output::answer(krankovel::cover_file(bytes, &row[..n]), out)
+}
+
 // react HEX STATE EVENT, reactfile HEX STATE EVENT
 fn answer_reaction(word: &[u8], bytes: &[u8], state: Bits, event: Bits, out: &mut [u8]) -> usize
     ensures { λ r. ⌜ Says (Questions.aboutReaction (now (word .entry)) (now (bytes .entry)) (whole state) (whole event)) r (now (out .entry)) (now (out .exit)) ⌝ }
@@ -131,6 +148,9 @@ fn answer_more(word: &[u8], bytes: &[u8], text: &[u8], out: &mut [u8]) -> usize
     }
     if texts::same(word, b"write") {
         return answer_write(bytes, text, out);
+    }
+    if texts::same(word, b"cover") {
+        return answer_cover(bytes, text, out);
     }
     output::bad_line(out)
 }
@@ -185,8 +205,8 @@ fn answer_question(word: &[u8], text: &[u8], out: &mut [u8]) -> usize
     answer_about(word, text, out)
 }
 
-// A line's answer.
-pub fn answer_line(line: &[u8], out: &mut [u8]) -> usize
+// What is answered to a line.
+fn say(line: &[u8], out: &mut [u8]) -> usize
     ensures { λ r. ⌜ Says (Questions.question (now (line .entry))) r (now (out .entry)) (now (out .exit)) ⌝ }
 {
     if LONGEST < line.len() {
@@ -197,4 +217,12 @@ pub fn answer_line(line: &[u8], out: &mut [u8]) -> usize
         return output::bad_line(out);
     }
     answer_question(&line[..end], &line[end + 1..], out)
+}
+
+// A line's answer, in a buffer that has room for any.
+pub fn answer_line(line: &[u8], out: &mut [u8]) -> usize
+    requires { ⌜ longestAnswer ≤ length (now out) ⌝ }
+    ensures { λ r. ⌜ Told (Questions.question (now (line .entry))) r (now (out .exit)) ⌝ }
+{
+    say(line, out)
 }

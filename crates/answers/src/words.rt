@@ -3,7 +3,7 @@ use texts::Hex;
 ghost use mathlib.Core.Path.{_≡_};
 ghost use lib.ListN.{length};
 ghost use Rattle.io.specs.Counts.{Counts};
-ghost use Rattle.answers.specs.Words.{wordEnd};
+ghost use Rattle.answers.specs.Words.{partEnd, wordEnd};
 ghost use Rattle.answers.specs.Questions.{room};
 ghost use Rattle.answers.specs.Code.{Decodes};
 
@@ -12,9 +12,17 @@ pub fn word_end(line: &[u8]) -> usize
     ensures { λ r. ⌜ Counts r (now (line .entry)) ⌝ }
     ensures { λ r. ⌜ r ≡ wordEnd (now (line .entry)) ⌝ }
 {
+    part_end(line, b' ')
+}
+
+// Where the first part ends: at the first such sign, or at the end.
+pub fn part_end(text: &[u8], sign: u8) -> usize
+    ensures { λ r. ⌜ Counts r (now (text .entry)) ⌝ }
+    ensures { λ r. ⌜ r ≡ partEnd sign (now (text .entry)) ⌝ }
+{
     let mut i = 0;
-    while i < line.len() {
-        if line[i] == b' ' {
+    while i < text.len() {
+        if text[i] == sign {
             return i;
         }
         i += 1;

@@ -78,7 +78,7 @@ fn pins_at(cover: &[u16], at: usize) -> [CellNo; Table::PINS]
 }
 
 // The table k.
-fn table_at(cover: &[u16], k: usize) -> Table
+pub fn table_at(cover: &[u16], k: usize) -> Table
     requires { ⌜ k < tableCount (now cover) ⌝ }
     ensures { λ r. ⌜ r ≡ tableAt (now (cover .entry)) k ⌝ }
 {

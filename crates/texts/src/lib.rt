@@ -10,6 +10,7 @@ pub use digits::decimal_value;
 pub use digits::hex_bytes;
 pub use digits::hex_value;
 pub use digits::set_value;
+pub use digits::value_of;
 pub use lines::all_read;
 pub use lines::next_line;
 pub use lines::nothing_read;

@@ -1,4 +1,6 @@
--- As much of the answer as the buffer has.
+-- The answer is within the buffer.
+use mathlib.Core.Path.{sym}
+use lib.Seq.{length-take-le}
 use borrow.Author.Needs.{needs}
 use Rattle.answers.proofs.print_answer.Statement.{statement}
 use Rattle.answers.proofs.print_answer.Tie as tie
@@ -9,17 +11,11 @@ slice-aggregate-answer-line c = search needs
 answer-line-requires : tie.Need-answer-line-requires
 answer-line-requires c κs = search needs
 
-slice-aggregate-within : tie.Need-slice-aggregate-within
-slice-aggregate-within c = search needs
-
-within-requires : tie.Need-within-requires
-within-requires c κs = search needs
-
 array-share-prefix-out : tie.Need-array-share-prefix-out
-array-share-prefix-out c = search needs
+array-share-prefix-out c = let few = c .before .answer-line .ensures .within in search needs
 
 slice-aggregate-write-all : tie.Need-slice-aggregate-write-all
-slice-aggregate-write-all c = search needs
+slice-aggregate-write-all c = sym (length-take-le _ _ (c .before .before .answer-line .ensures .within))
 
 write-all-requires : tie.Need-write-all-requires
 write-all-requires c κs = search needs
@@ -30,12 +26,4 @@ returns c = search needs
 pub print-answer-spec : {M : Type 1} → statement M
 print-answer-spec =
     tie.close
-    (tie.spec
-    slice-aggregate-answer-line
-    answer-line-requires
-    slice-aggregate-within
-    within-requires
-    array-share-prefix-out
-    slice-aggregate-write-all
-    write-all-requires
-    returns)
+    (tie.spec slice-aggregate-answer-line answer-line-requires array-share-prefix-out slice-aggregate-write-all write-all-requires returns)

@@ -1,6 +1,8 @@
--- An order and a table, or none.
-use Rattle.answers.proofs.Saying.{said}
-use Rattle.answers.specs.Answering.{no-order}
+-- No table behind the order, no order, or both.
+use mathlib.Core.Path.{sym, _∙_}
+use Rattle.answers.proofs.Asking.{one-word, order-then}
+use Rattle.answers.proofs.Saying.{said-bad}
+use Rattle.answers.specs.Questions.{of, aboutOrder}
 use borrow.Author.Needs.{needs}
 use Rattle.answers.proofs.order.answer.Statement.{statement}
 use Rattle.answers.proofs.order.answer.Tie as tie
@@ -15,7 +17,14 @@ same-length : tie.Need-same-length
 same-length c = search needs
 
 returns : tie.Need-returns
-returns c = said no-order (c .before .before .bad-line .ensures)
+unfolding aboutOrder
+returns c =
+    let at-bad-line = c .before .before in
+    let at-if1 = at-bad-line .before .before in
+    let at-word-end = at-if1 .before in
+    let start = at-word-end .before .before .before in
+    let text = start .args .text .now in
+    rw (one-word text (at-word-end .word-end .result) (at-word-end .word-end .ensures .1) (at-if1 .if1 .taken)) (said-bad (at-bad-line .bad-line .ensures))
 
 slice-aggregate-order-value : tie.Need-slice-aggregate-order-value
 slice-aggregate-order-value c = search needs
@@ -36,7 +45,17 @@ same-length-2 : tie.Need-same-length-2
 same-length-2 c = search needs
 
 returns-2 : tie.Need-returns-2
-returns-2 c = said no-order (c .before .before .bad-line2 .ensures)
+unfolding of
+returns-2 c =
+    let at-bad-line2 = c .before .before in
+    let at-enum-told = at-bad-line2 .before .before in
+    let at-order-value = at-enum-told .before .before in
+    let at-if1 = at-order-value .before .before in
+    let at-word-end = at-if1 .before in
+    let start = at-word-end .before .before .before in
+    let text = start .args .text .now in
+    let then = order-then text (at-word-end .word-end .result) (at-word-end .word-end .ensures .1) (at-if1 .if1 .left) (sym (at-order-value .order-value .ensures) ∙ at-enum-told .enum-told .given .1) in
+    rw then (said-bad (at-bad-line2 .bad-line2 .ensures))
 
 add-answer-table : tie.Need-add-answer-table
 add-answer-table c = search needs
@@ -57,7 +76,17 @@ same-length-3 : tie.Need-same-length-3
 same-length-3 c = search needs
 
 returns-3 : tie.Need-returns-3
-returns-3 c = c .before .before .answer-table .ensures _
+unfolding of
+returns-3 c =
+    let at-answer-table = c .before .before in
+    let at-order = at-answer-table .before .before .before .before in
+    let at-order-value = at-order .before .before in
+    let at-if1 = at-order-value .before .before in
+    let at-word-end = at-if1 .before in
+    let start = at-word-end .before .before .before in
+    let text = start .args .text .now in
+    let then = order-then text (at-word-end .word-end .result) (at-word-end .word-end .ensures .1) (at-if1 .if1 .left) (sym (at-order-value .order-value .ensures) ∙ at-order .order .given .1) in
+    rw then (at-answer-table .answer-table .ensures)
 
 pub answer-spec : {M : Type 1} → statement M
 answer-spec =

@@ -21,8 +21,11 @@ same-length c = search needs
 returns : tie.Need-returns
 unfolding aboutMore
 returns c =
-    let one = sym (c .before .before .before .before .before .same .ensures) ∙ c .before .before .before .before .if1 .taken in
-    rw one (c .before .before .answer-fits .ensures)
+    let at-answer-fits = c .before .before in
+    let at-if1 = at-answer-fits .before .before in
+    let at-same = at-if1 .before in
+    let one = sym (at-same .same .ensures) ∙ at-if1 .if1 .taken in
+    rw one (at-answer-fits .answer-fits .ensures)
 
 slice-aggregate-same-2 : tie.Need-slice-aggregate-same-2
 slice-aggregate-same-2 c = search needs
@@ -48,8 +51,14 @@ returns-2 c =
     let two = sym (at-same2 .same2 .ensures) ∙ at-if2 .if2 .taken in
     rw (one, two) (at-answer-write .answer-write .ensures)
 
-bad-line-requires : tie.Need-bad-line-requires
-bad-line-requires c κs = search needs
+slice-aggregate-same-3 : tie.Need-slice-aggregate-same-3
+slice-aggregate-same-3 c = search needs
+
+same-requires-3 : tie.Need-same-requires-3
+same-requires-3 c κs = search needs
+
+answer-cover-requires : tie.Need-answer-cover-requires
+answer-cover-requires c κs = search needs
 
 same-length-3 : tie.Need-same-length-3
 same-length-3 c = search needs
@@ -57,14 +66,38 @@ same-length-3 c = search needs
 returns-3 : tie.Need-returns-3
 unfolding aboutMore
 returns-3 c =
-    let at-bad-line = c .before .before in
-    let at-if2 = at-bad-line .before .before in
+    let at-answer-cover = c .before .before in
+    let at-if3 = at-answer-cover .before .before in
+    let at-same3 = at-if3 .before in
+    let at-if2 = at-same3 .before .before in
     let at-same2 = at-if2 .before in
     let at-if1 = at-same2 .before .before in
     let at-same = at-if1 .before in
     let one = sym (at-same .same .ensures) ∙ at-if1 .if1 .left in
     let two = sym (at-same2 .same2 .ensures) ∙ at-if2 .if2 .left in
-    rw (one, two) (said-bad (at-bad-line .bad-line .ensures))
+    let three = sym (at-same3 .same3 .ensures) ∙ at-if3 .if3 .taken in
+    rw (one, two, three) (at-answer-cover .answer-cover .ensures)
+
+bad-line-requires : tie.Need-bad-line-requires
+bad-line-requires c κs = search needs
+
+same-length-4 : tie.Need-same-length-4
+same-length-4 c = search needs
+
+returns-4 : tie.Need-returns-4
+unfolding aboutMore
+returns-4 c =
+    let at-bad-line = c .before .before in
+    let at-if3 = at-bad-line .before .before in
+    let at-same3 = at-if3 .before in
+    let at-if2 = at-same3 .before .before in
+    let at-same2 = at-if2 .before in
+    let at-if1 = at-same2 .before .before in
+    let at-same = at-if1 .before in
+    let one = sym (at-same .same .ensures) ∙ at-if1 .if1 .left in
+    let two = sym (at-same2 .same2 .ensures) ∙ at-if2 .if2 .left in
+    let three = sym (at-same3 .same3 .ensures) ∙ at-if3 .if3 .left in
+    rw (one, two, three) (said-bad (at-bad-line .bad-line .ensures))
 
 pub answer-more-spec : {M : Type 1} → statement M
 answer-more-spec =
@@ -80,6 +113,11 @@ answer-more-spec =
     answer-write-requires
     same-length-2
     returns-2
-    bad-line-requires
+    slice-aggregate-same-3
+    same-requires-3
+    answer-cover-requires
     same-length-3
-    returns-3)
+    returns-3
+    bad-line-requires
+    same-length-4
+    returns-4)
