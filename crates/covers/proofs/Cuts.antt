@@ -18,7 +18,6 @@ use Rattle.tables.proofs.Bits.{same-bits}
 use Rattle.tables.proofs.Settings.{setting-bit, setting-is, valueIn, reached}
 use Rattle.cells.specs.declared.Cell.{Cell}
 use Rattle.cells.specs.Cells.{cellAt}
-use Rattle.cells.specs.Values.{before, value}
 use Rattle.cells.specs.Needs.{IsCell}
 use Rattle.order.specs.Paths.{Reaches, one}
 use Rattle.run.specs.Held.{SolvesHeld}
@@ -49,6 +48,18 @@ own-pin {cells} t o is gate long pin right =
 pub strays-wrong : {cells : List Cell} (t : Table) → Strays cells (t .pins) (t .cell) → RightCut cells t → ⊥
 strays-wrong t s right = true≢false (sym (right .ends (s .at) (s .met) (s .source)) ∙ s .no-pin)
 
+-- with the pins held at h a net at a pin has its value of h, so that the setting is h's
+module _ (cells : List Cell) (cut : List CellNo) (long : length cut ≡ pins) (h v : CellNo → Bool) (J : SignalNo → Bool) (S : ℕ → Bool)
+    (s : SolvesHeld (isPin cut) h J S cells v) where
+  pub at-pin : (p : ℕ) → p < pins → v (pinAt cut p) ≡ h (pinAt cut p)
+  unfolding pick
+  at-pin p l = s (pinAt cut p) ∙ rw (found-pin cut p (rw long l))
+
+  pub same-setting : setting v cut ≡ setting h cut
+  same-setting =
+      setting-is v cut (setting h cut) (rw long (small cut long h))
+      (λ p hp. at-pin p (rw long at hp) ∙ sym (setting-bit h cut p hp))
+
 masked : (a b : Bool) → b ≡ true → (a && b) ≡ a
 masked true b e = e
 masked false b e = refl
@@ -68,21 +79,6 @@ module _ {cells : List Cell} (t : Table) {base : ℕ} {marks values stack : List
 
     abbrev word : ℕ
     word = getD values (ofCell (t .cell)) 0
-
-    -- a net at a pin has its value of h
-    at-pin : (h v : CellNo → Bool) (J : SignalNo → Bool) (S : ℕ → Bool) → SolvesHeld (isPin cut) h J S cells v → (p : ℕ) → p < pins
-        → v (pinAt cut p) ≡ h (pinAt cut p)
-    unfolding pick
-    at-pin h v J S s p hp =
-        s (pinAt cut p)
-        ∙ ap (λ (b : Bool). pick b (h (pinAt cut p)) (value J (S (before cells (pinAt cut p))) v (cellAt cells (pinAt cut p))))
-        (found-pin cut p (omega (arith, k .long)))
-
-    same-setting : (h v : CellNo → Bool) (J : SignalNo → Bool) (S : ℕ → Bool) → SolvesHeld (isPin cut) h J S cells v
-        → setting v cut ≡ setting h cut
-    same-setting h v J S s =
-        setting-is v cut (setting h cut) (rw (k .long) (small cut (k .long) h))
-        (λ p hp. at-pin h v J S s p (rw (k .long) at hp) ∙ sym (setting-bit h cut p hp))
 
     -- a setting of values counts
     counts-at : (h : CellNo → Bool) → bit counts (setting h cut) ≡ true
@@ -111,7 +107,7 @@ module _ {cells : List Cell} (t : Table) {base : ℕ} {marks values stack : List
               sym (bit-and word counts b ∙ masked (bit word b) (bit counts b) on)
               ∙ ap (λ (w : ℕ). bit w b) (eqb-true (bitAnd word counts) (bitAnd (t .truth) counts) e)
               ∙ (bit-and (t .truth) counts b ∙ masked (bit (t .truth) b) (bit counts b) on) in
-              ap (bit (t .truth)) (same-setting h v J S s) ∙ sym alike ∙ tells h v J S s;
+              ap (bit (t .truth)) (same-setting cells cut (k .long) h v J S s) ∙ sym alike ∙ tells h v J S s;
         }
       where
         ends : (y : CellNo) → Met cells (t .pins) (t .cell) y → isSource (cellAt cells y) ≡ true → (b : Bool) → isPin (t .pins) y ≡ b
@@ -141,7 +137,8 @@ module _ {cells : List Cell} (t : Table) {base : ℕ} {marks values stack : List
             let v = one .values in
             let known-word : bit w b ≡ v (t .cell) = ap (bit w) (sym is) ∙ tells v₀ v (λ s. false) (λ i. false) (one .solves) in
             let truth-is : bit (t .truth) b ≡ v (t .cell) =
-            ap (bit (t .truth)) (sym (same-setting v₀ v (λ s. false) (λ i. false) (one .solves) ∙ is)) ∙ right .equal v₀ v (λ s. false)
+            ap (bit (t .truth)) (sym (same-setting cells (t .pins) (k .long) v₀ v (λ s. false) (λ i. false) (one .solves) ∙ is)) ∙
+            right .equal v₀ v (λ s. false)
             (λ i. false) (one .solves) in
             bit-and w counts b
             ∙ masked (bit w b) (bit counts b) on

@@ -34,11 +34,12 @@ use Rattle.run.specs.Held.{SolvesHeld, OneSolution}
 use Rattle.run.proofs.One.{held}
 use Rattle.run.proofs.Rank.{rank, ranked, past-end}
 use Rattle.cuts.specs.Cut.{pinAt, isGate, isSource, isPin, Met, operand, onward, RightCut}
-use Rattle.cuts.proofs.Pins.{pin-found, found-pin}
+use Rattle.cuts.proofs.Pins.{pin-found}
 use Rattle.covers.specs.Covers.{size, tableCount, tableAt, Carried, RightTable, Complete, RightCover, FirstWrong}
 use Rattle.covers.specs.Checking.{OperandCarried, OutputsCarried}
 use Rattle.covers.proofs.Carrying.{operands-all, output-last}
 use Rattle.covers.proofs.Reading.{pins-long}
+use Rattle.covers.proofs.Cuts.{at-pin}
 use Rattle.covers.proofs.Tables.{no-source}
 use Rattle.giving.proofs.Giving.{same-answers}
 
@@ -192,12 +193,6 @@ module _ {cells : List Cell} {order : List ℕ} (o : Ordered cells order) where
       agree zero x l w = absurd (not-suc-le-zero l)
       agree (suc m) x l w = agree-at x w (λ y n met. agree m y (omega (arith, ranked cells order o x y n)) (inr met))
 
-    -- a net at a pin has its value of h
-    at-pin : (h v : CellNo → Bool) (J : SignalNo → Bool) (S : ℕ → Bool) → SolvesHeld (isPin cut) h J S cells v → (p : ℕ) → p < pins
-        → v (pinAt cut p) ≡ h (pinAt cut p)
-    unfolding pick
-    at-pin h v J S s p l = s (pinAt cut p) ∙ rw (found-pin cut p (rw long l))
-
     -- so it is enough to ask at each setting
     at-setting : (b : ℕ) → OneSolution (isPin cut) (valueIn cut b) silent blank cells
     at-setting b = held cells order o (isPin cut) (valueIn cut b) silent blank
@@ -216,7 +211,8 @@ module _ {cells : List Cell} {order : List ℕ} (o : Ordered cells order) where
       same-pins : (p : ℕ) → p < pins → at-setting b .values (pinAt cut p) ≡ v (pinAt cut p)
       same-pins p l =
           let inside : p < length cut = rw long l in
-          at-pin (valueIn cut b) (at-setting b .values) silent blank (at-setting b .solves) p l
+          let one = at-setting b in
+          at-pin cells cut long (valueIn cut b) (one .values) silent blank (one .solves) p l
           ∙ sym (setting-bit (valueIn cut b) cut p inside)
           ∙ ap (λ (n : ℕ). bit n p) own-setting
           ∙ setting-bit v cut p inside
@@ -244,12 +240,7 @@ module _ {cells : List Cell} {order : List ℕ} (o : Ordered cells order) where
     cut-right : Dec (RightCut cells t)
     cut-right =
         map-dec (λ w. record { met = w .0; ends = ends-asked (w .1); equal = equal (ends-asked (w .1)) (w .2) })
-        (λ r. (
-          r .met,
-          λ k h. r .ends (cellNo k),
-          λ b h. r .equal (valueIn cut b) (at-setting b .values) silent blank
-              (at-setting b .solves),
-        ))
+        (λ r. (r .met, λ k h. r .ends (cellNo k), λ b h. r .equal (valueIn cut b) _ silent blank (at-setting b .solves)))
         (all-three
         (all-of _ (λ p. if-so (Bool-discrete _ false) (is-met cut c (pinAt cut p))) pins)
         (all-of _ (λ k. if-so (is-met cut c (cellNo k)) (if-so (Bool-discrete _ true) (Bool-discrete _ true))) (length cells))

@@ -43,7 +43,8 @@ struct Packed {
     orders: Vec<usize>,
 }
 
-fn netlist(random: &mut Random) -> Netlist {
+/// A netlist that is accepted, of a program or one that nobody compiled.
+pub fn netlist(random: &mut Random) -> Netlist {
     loop {
         let sheet = match random.below(20) {
             0..=1 => make::relay(random),

@@ -27,7 +27,7 @@ use covers::Covers;
 use questions::Questions;
 use random::Random;
 use search::Search;
-use sheet::ORDER;
+use sheet::{COVER, ORDER};
 use std::collections::BTreeMap;
 use std::fs::{self, File};
 use std::process::{exit, Command};
@@ -93,13 +93,13 @@ fn counts(questions: &[Vec<u8>], expected: &[String]) -> (BTreeMap<String, usize
     (words, numbers)
 }
 
-/// Prints what was asked, and answers which numbers of 0 to 16 and 20 no answer has.
+/// Prints what was asked, and answers which numbers of 0 to 16, 19 and 20 no answer has.
 fn report(questions: &[Vec<u8>], expected: &[String]) -> Vec<u32> {
     let (words, numbers) = counts(questions, expected);
     let list = |items: Vec<String>| items.join(", ");
     println!("questions: {}", list(words.iter().map(|(word, n)| format!("{word} {n}")).collect()));
     println!("numbers:   {}", list(numbers.iter().map(|(number, n)| format!("{number}: {n}")).collect()));
-    (0..=16).chain([ORDER]).filter(|number| !numbers.contains_key(number)).collect()
+    (0..=16).chain([COVER, ORDER]).filter(|number| !numbers.contains_key(number)).collect()
 }
 
 /// Whether rules and netlist agree in the model itself.

@@ -1,9 +1,12 @@
 //! Makes questions: about programs, files, states and events, good and damaged, and lines that are no questions.
 
 use crate::answers::{check, hex, Program};
+use crate::cover::NUMBERS;
+use crate::covers;
 use crate::file;
 use crate::make;
 use crate::netlist::Netlist;
+use crate::packer::{self, DAMAGES};
 use crate::random::Random;
 use crate::rules::{self, Guess};
 
@@ -16,12 +19,13 @@ impl Questions {
     /// At least so many questions.
     pub fn make(&mut self, count: usize) {
         while self.lines.len() < count {
-            match self.random.below(20) {
+            match self.random.below(22) {
                 0..=10 => self.about_program(),
                 11 => self.about_table(),
                 12..=13 => self.about_damaged_program(),
                 14..=15 => self.about_limit(),
                 16..=18 => self.about_file(),
+                19..=20 => self.about_cover(),
                 _ => self.about_text(),
             }
         }
@@ -236,6 +240,43 @@ impl Questions {
         self.ask(&["order", &order, &table]);
     }
 
+    /// The tables of a cover in a word; what is left behind them is no table.
+    fn tables(&mut self, cover: &[u16]) -> String {
+        let tables: Vec<String> = cover.chunks_exact(NUMBERS).map(|t| self.table(t)).collect();
+        if tables.is_empty() {
+            return "-".to_string();
+        }
+        tables.join(",")
+    }
+
+    fn table(&mut self, numbers: &[u16]) -> String {
+        let (truth, cells) = numbers.split_last().expect("a table has numbers");
+        let cells: Vec<String> = cells.iter().map(u16::to_string).collect();
+        match self.random.below(20) {
+            0 => format!("0{}:{truth:04X}", cells.join(":0")),
+            _ => format!("{}:{truth:x}", cells.join(":")),
+        }
+    }
+
+    /// A cover of a netlist, the same damaged, and that of a damaged netlist.
+    fn about_cover(&mut self) {
+        let netlist = covers::netlist(&mut self.random);
+        let file = file::write(&netlist);
+        let cover = packer::numbers(&packer::pack(&mut self.random, &netlist));
+        let mut questions = vec![(file.clone(), cover.clone())];
+        for _ in 0..6 {
+            let (_, damage) = self.random.one_of(&DAMAGES);
+            let mut damaged = cover.clone();
+            damage(&mut self.random, &netlist, &mut damaged);
+            questions.push((file.clone(), damaged));
+        }
+        questions.push((make::damaged(&mut self.random, &file), cover));
+        for (file, cover) in questions {
+            let (file, tables) = (self.hex(&file), self.tables(&cover));
+            self.ask(&["cover", &file, &tables]);
+        }
+    }
+
     /// A line as it was asked before, spoilt as a text; or the longest line, and one longer.
     fn about_text(&mut self) {
         if self.lines.is_empty() || self.random.percent(4) {
@@ -258,7 +299,7 @@ impl Questions {
 
     fn spoilt(&mut self, mut line: Vec<u8>) -> Vec<u8> {
         let at = self.random.below(line.len() + 1);
-        let odd = self.random.one_of(b" \t\r-gG0fx:@`/\0\x80\xff");
+        let odd = self.random.one_of(b" \t\r-gG0fx:,@`/\0\x80\xff");
         match self.random.below(9) {
             0 => line.truncate(at),
             1 => line.insert(0, b' '),
