@@ -1,5 +1,5 @@
 -- The loop over many events: the moments so far are a run, and the state after them fits, so that the next event has its moment.
-use mathlib.Core.Path.{_≡_}
+use mathlib.Core.Path.{_≡_, sym, ap, _∙_}
 use mathlib.Core.Bool.{true}
 use mathlib.Core.List.{List}
 use Prim.Native.Nat.{ℕ, _+_, _*_, _/_, _<_, _≤_}
@@ -15,6 +15,7 @@ use Rattle.sheet.specs.Rows.{Holds}
 use Rattle.rules.specs.declared.Yield.{Yield}
 use Rattle.rules.specs.States.{fits}
 use Rattle.rules.specs.Words.{Next, root}
+use Rattle.rules.proofs.Walks.{holds-one}
 use Rattle.run.specs.Words.{eventOk}
 use Rattle.run.proofs.Going.{Upto, upto-none, signals-length, states-length, upto-next, upto-all, each-at}
 use Rattle.interpreter.specs.Interpret.{Moment}
@@ -37,8 +38,15 @@ module _ (rows : List ℕ) (asked start : ℕ) (events emissions states : List �
   followed-none = record { upto = λ a t h. upto-none (Moment t) start events emissions states; fit = λ p. p .fit }
 
   module _ {emissions′ states′ : List ℕ} {state j : ℕ} (here : Followed emissions′ states′ state j) where
-    pub followed-all : length events / words ≤ j → RanRows rows start events emissions emissions′ states states′ state
-    followed-all end = record { ran = λ a t h. upto-all (Moment t) start events emissions states (here .upto a t h) end }
+    pub followed-all : Pre → length events / words ≤ j → RanRows rows start events emissions emissions′ states states′ state
+    followed-all p end =
+        record {
+          ran = λ a t h. upto-all (Moment t) start events emissions states (here .upto a t h) end;
+          fit = record { answer = λ t h. sym (here .fit p) ∙ ap (fits (has state)) (one-held t h) };
+        }
+      where
+        one-held : (t : Stmt) → Holds rows root (haltNo 0) t → p .read .root ≡ t
+        one-held t h = holds-one rows root (haltNo 0) (haltNo 0) (p .read .root) t (p .holds) h
 
     module _ (p : Pre) where
       own-upto : Upto (Moment (p .read .root)) start events emissions states emissions′ states′ state j

@@ -1,6 +1,6 @@
 -- The reactions of a program in columns are those of the sheet that it stands for.
 use mathlib.Core.Path.{_≡_, sym, ap, _∙_}
-use mathlib.Core.Bool.{Bool, _&&_}
+use mathlib.Core.Bool.{Bool, true, _&&_}
 use mathlib.Core.List.{List}
 use Prim.Native.Nat.{ℕ, _<_}
 use native.Mathlib.Omega.{arith}
@@ -12,6 +12,8 @@ use Rattle.number.specs.Counts.{haltNo}
 use Rattle.number.proofs.Bools.{and-right}
 use Rattle.limits.specs.Limits.{maxSignals}
 use Rattle.bits.specs.Bits.{has, whole, isWhole, setsIn}
+use Rattle.bits.specs.declared.Bits.{Bits}
+use Rattle.bits.proofs.Whole.{Proper, bits-whole}
 use Rattle.sheet.specs.declared.Counts.{Counts}
 use Rattle.sheet.specs.Stmt.{Stmt}
 use Rattle.sheet.specs.Read.{Sheet}
@@ -22,6 +24,8 @@ use Rattle.rules.proofs.Walks.{holds-one}
 use Rattle.rules.proofs.Fitting.{known-proper}
 use Rattle.run.specs.Words.{eventOk}
 use Rattle.run.specs.Many.{each, eventsOk}
+use Rattle.verdicts.specs.declared.Answer.{Answer}
+use Rattle.verdicts.specs.declared.Course.{Course}
 use Rattle.verdicts.specs.declared.Reaction.{Reaction}
 use Rattle.verdicts.specs.declared.Stop.{Stop}
 use Rattle.verdicts.specs.declared.Stop.the-variants.{Nothing, By}
@@ -97,6 +101,11 @@ module _ {p : Program} {rows : List ℕ} {ask : Asked} {n : ℕ} {own fit room :
         record {
           runs = λ w is. rw (is .counts, is .count) (ran-on (asked-verdict is ∙ still) (did .ran (haltNo 0) (w .root) (is .holds)));
         }
+
+-- a state that is handed back fits as it did
+pub fitted-back : {rows : List ℕ} {a : Answer} {b : Bits} {r : Course} {fit : Bool} → Proper (b .words) → r ≡ withState a (whole b)
+    → Fitted rows (whole b) fit → fit ≡ true → Fitted rows (whole (r .state)) true
+fitted-back p is f so = rw (is, ap whole (bits-whole p)) (rw so at f)
 
 -- what covers the sheet that the rows hold covers whatever they hold
 pub may-tested : {rows : List ℕ} {asked state : ℕ} {events emissions states : List ℕ} → MayRun rows asked state events emissions states

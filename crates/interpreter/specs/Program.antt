@@ -15,7 +15,7 @@ use Rattle.sheet.specs.Rows.{Holds}
 use Rattle.sheet.specs.Answer.{countsOf}
 use Rattle.sets.specs.Words.{Kept}
 use Rattle.rules.specs.States.{fits}
-use Rattle.rules.specs.Words.{root}
+use Rattle.rules.specs.Words.{root, Fitted}
 use Rattle.builder.specs.Netlist.{sheetNetlist}
 use Rattle.run.specs.Words.{eventOk}
 use Rattle.run.specs.Many.{each, eventsOk, Room, Ran}
@@ -58,9 +58,10 @@ pub record MayRun (rows : List ℕ) (asked state : ℕ) (events emissions states
   pub own : each (eventOk (read .inputs)) (setsIn events) ≡ true
   pub room : Room events emissions states
 
--- a moment of the rules for each event
+-- a moment of the rules for each event, and the last state fits
 pub record RanRows (rows : List ℕ) (state : ℕ) (events emissions emissions′ states states′ : List ℕ) (last : ℕ) : Type 0 where
   pub ran : (a : HaltNo) (t : Stmt) → Holds rows root a t → Ran (Moment t) state events emissions emissions′ states states′ last
+  pub fit : Fitted rows last true
 
 -- the reactions of the accepted sheet w, after the order of faults
 abbrev pub AcceptedRuns : Sheet → Asked → Told → Type 0

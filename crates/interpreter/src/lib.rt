@@ -10,9 +10,11 @@ use sheet::Unary;
 use verdicts::Course;
 use verdicts::Reaction;
 use verdicts::Stop;
+ghost use mathlib.Core.Path.{_≡_};
+ghost use mathlib.Core.Bool.{true};
 ghost use Rattle.bits.specs.Bits.{whole};
 ghost use Rattle.sheet.specs.Read.{only};
-ghost use Rattle.rules.specs.Words.{Runnable, root};
+ghost use Rattle.rules.specs.Words.{Runnable, root, Fitted};
 ghost use Rattle.interpreter.specs.Tested.{asksOne, asksTwo, Covers, Tested};
 ghost use Rattle.interpreter.specs.Settle.{Settling, AgreedAt};
 ghost use Rattle.interpreter.specs.Program.{Prepared, Prepares, MayRun, RanRows, ProgramRuns, ProgramReacts};
@@ -139,7 +141,38 @@ pub fn moments(
     last
 }
 
-// The reactions of a program that was made ready: EVENT, STATE or BUFFER, or a moment for each event.
+// The reactions of a program that was made ready, where `fit` says whether the state fits: EVENT, STATE or BUFFER, or a moment for each event.
+fn run_from(
+    p: Program,
+    rows: &[u64],
+    statics: &[u64],
+    state: Bits,
+    fit: bool,
+    events: &[u64],
+    emissions: &mut [u64],
+    states: &mut [u64],
+) -> Course
+    requires { ⌜ Prepared p (now rows) (now statics) × Fitted (now rows) (whole state) fit ⌝ }
+    ensures { λ r. ⌜ ProgramRuns p (now (rows .entry)) (now (statics .entry))
+        (record { state = whole state; events = now (events .entry); signals = now (emissions .entry); states = now (states .entry) })
+        (record { course = r; signals = now (emissions .exit); states = now (states .exit) }) ⌝ }
+    ensures { λ r. ⌜ (fit ≡ true → Fitted (now (rows .entry)) (whole (r .state)) true) ⌝ }
+{
+    let counts = p.counts;
+    let asks = p.asks;
+    let needed = verdicts::needed(events);
+    let own = run::events_ok(counts.inputs as u32, events);
+    let room = verdicts::has_room(needed, emissions.len(), states.len());
+    match verdicts::first_fault(own, fit, room, needed) {
+        Stop::By(f) => verdicts::with_state(verdicts::refusal(f), state),
+        Stop::Nothing => {
+            let last = moments(rows, asks, state, events, emissions, states);
+            verdicts::with_state(verdicts::acceptance(counts.statements, p.cells), last)
+        }
+    }
+}
+
+// The reactions of a program that was made ready, from any state.
 pub fn react_many(
     p: Program,
     rows: &[u64],
@@ -154,35 +187,26 @@ pub fn react_many(
         (record { state = whole state; events = now (events .entry); signals = now (emissions .entry); states = now (states .entry) })
         (record { course = r; signals = now (emissions .exit); states = now (states .exit) }) ⌝ }
 {
-    let counts = p.counts;
-    let asks = p.asks;
-    let needed = verdicts::needed(events);
-    let own = run::events_ok(counts.inputs as u32, events);
     let fit = rules::fits(rows, statics, state);
-    let room = verdicts::has_room(needed, emissions.len(), states.len());
-    match verdicts::first_fault(own, fit, room, needed) {
-        Stop::By(f) => verdicts::with_state(verdicts::refusal(f), state),
-        Stop::Nothing => {
-            let last = moments(rows, asks, state, events, emissions, states);
-            verdicts::with_state(verdicts::acceptance(counts.statements, p.cells), last)
-        }
-    }
+    run_from(p, rows, statics, state, fit, events, emissions, states)
 }
 
-// The reaction of a program that was made ready to one event: a run over it.
+// The reaction of a program that was made ready to one event: a run over it. The state fits, and so does the next one, so that nothing has to ask it again.
 pub fn react(p: Program, rows: &[u64], statics: &[u64], state: Bits, event: Bits) -> Reaction
-    requires { ⌜ Prepared p (now rows) (now statics) ⌝ }
+    requires { ⌜ Prepared p (now rows) (now statics) × Fitted (now rows) (whole state) true ⌝ }
     ensures { λ r. ⌜ ProgramReacts p (now (rows .entry)) (now (statics .entry)) (whole state) (whole event) r ⌝ }
+    ensures { λ r. ⌜ Fitted (now (rows .entry)) (whole (r .state)) true ⌝ }
 {
     let mut events = [0u64; bits::WORDS];
     let mut emissions = [0u64; bits::WORDS];
     let mut states = [0u64; bits::WORDS];
     event.write(&mut events, 0);
-    let c = react_many(
+    let c = run_from(
         p,
         rows,
         statics,
         state,
+        true,
         &events,
         &mut emissions,
         &mut states,

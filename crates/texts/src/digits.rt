@@ -98,7 +98,6 @@ fn with_digit(value: u64, base: u64, d: u64) -> u64
 
 // Digits of a base, at least one and at most so many.
 pub fn value_of(text: &[u8], base: u64, most: usize) -> Value
-    requires { ⌜ 0 < base ⌝ }
     ensures { λ r. ⌜ r ≡ valueOf base most (now (text .entry)) ⌝ }
 {
     if text.len() == 0 {

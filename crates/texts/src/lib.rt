@@ -23,7 +23,7 @@ pub use put::put_hex_bytes;
 pub use put::put_row;
 pub use put::put_set;
 pub use words::same;
-pub use words::within;
+use words::within;
 
 // A number, or a text that is none.
 pub enum Value {

@@ -48,7 +48,8 @@ module _ {many : Bool} {t : Trace} {line : List ℕ} {at : ℕ} {r : After} {row
 
   pub turned-anew : begins many line ≡ true → r .trace .awaited ≡ Sheet → Puts (dashes ++ (newline ∷ [])) at (r .end) out out′
       → Does (turnOf many line) t at r rows rows′ statics statics′ out out′
-  turned-anew is awaits p = record { from = λ x stands. record { next = first; text = _; moves = anew is; stands = for-first awaits; written = p } }
+  turned-anew is awaits p =
+      record { from = λ x stands. record { next = first; text = _; moves = anew is; stands = for-first awaits; written = p } }
 
 -- any answer has room in 64 bytes
 rest-short : (b : Bool) → length (restText b) ≤ 3
@@ -88,7 +89,8 @@ printed-more no-line q = q
 printed-more (next-line {text = text} {rest = rest} turn p) q = rw (append-assoc text rest _) (next-line turn (printed-more p q))
 
 -- What holds after some lines: the text of these is there, and the others are those of the bytes that are still at hand.
-pub record Feeding (many : Bool) (x : State) (s₀ : Source) (bytes text out₀ : List ℕ) (t : Trace) (s : Source) (len : ℕ) (line rows statics out : List ℕ)
+pub record Feeding (many : Bool) (x : State) (s₀ : Source) (bytes text out₀ : List ℕ) (t : Trace) (s : Source) (len : ℕ)
+    (line rows statics out : List ℕ)
     : Type 0 where
   pub done : List (List ℕ)
   pub output : List ℕ
@@ -101,7 +103,8 @@ pub record Feeding (many : Bool) (x : State) (s₀ : Source) (bytes text out₀ 
   pub kept : Kept current (s .held) line
   pub written : Puts output 0 len out₀ out
 
-none-fed : {many : Bool} {x : State} {t : Trace} {s : Source} {bytes : List ℕ} (text rows statics out : List ℕ) {line : List ℕ} → Stands t rows statics x
+none-fed : {many : Bool} {x : State} {t : Trace} {s : Source} {bytes : List ℕ} (text rows statics out : List ℕ) {line : List ℕ}
+    → Stands t rows statics x
     → Kept text (s .held) line → Feeding many x s bytes text out t s 0 line rows statics out
 none-fed text rows statics out stands k =
     record {
@@ -117,10 +120,12 @@ none-fed text rows statics out stands k =
       written = puts-none out 0 (omega arith);
     }
 
-module _ {many : Bool} {x : State} {s₀ : Source} {bytes text out₀ : List ℕ} {t : Trace} {s : Source} {len : ℕ} {line rows statics out : List ℕ}
+module _ {many : Bool} {x : State} {s₀ : Source} {bytes text out₀ : List ℕ} {t : Trace} {s : Source} {len : ℕ}
+    {line rows statics out : List ℕ}
     (f : Feeding many x s₀ bytes text out₀ t s len line rows statics out) (same : s .ended ≡ s₀ .ended) where
   -- a line more
-  line-fed : {n : ℕ} {s′ : Source} {r : After} {line′ rows′ statics′ out′ : List ℕ} → length out₀ ≤ 18446744073709551615 → lineRoom ≤ length line′
+  line-fed : {n : ℕ} {s′ : Source} {r : After} {line′ rows′ statics′ out′ : List ℕ} → length out₀ ≤ 18446744073709551615
+      → lineRoom ≤ length line′
       → s′ .ended ≡ s .ended → LineTaken s bytes (f .current) n s′ line′
       → Does (turnOf many (take n line′)) t len r rows rows′ statics statics′ out out′
       → Feeding many x s₀ bytes text out₀ (r .trace) s′ (r .end) line′ rows′ statics′ out′
@@ -135,7 +140,8 @@ module _ {many : Bool} {x : State} {s₀ : Source} {bytes text out₀ : List ℕ
         printed = rw (append-nil (did .text)) at (printed-more (f .printed) (next-line turn no-line));
         stands = did .stands;
         split =
-            f .split ∙ ap (λ (l : List (List ℕ)). f .done ++ l) (taken .first ∙ ap (λ (b : Bool). taken .whole ∷ linesIn b [] (atHand s′ bytes)) (sym ended))
+            f .split ∙ ap (λ (l : List (List ℕ)). f .done ++ l)
+            (taken .first ∙ ap (λ (b : Bool). taken .whole ∷ linesIn b [] (atHand s′ bytes)) (sym ended))
             ∙ sym (append-assoc (f .done) (taken .whole ∷ []) (linesIn (s′ .ended) [] (atHand s′ bytes)));
         left = λ open-ended. f .left open-ended ∙ taken .left (same ∙ open-ended);
         kept = rw (taken .none-held) (nothing-kept line′);
@@ -158,7 +164,8 @@ module _ {many : Bool} {x : State} {s₀ : Source} {bytes text out₀ : List ℕ
         onward = rw (ended, same);
       })
 
--- What holds when the loop over the lines is reached: the buffers keep their lengths, what is still at hand has room, and the trace stands for some state.
+-- What holds when the loop over the lines is reached: the buffers keep their lengths, what is still at hand has room, and the trace
+-- stands for some state.
 pub record Rounds (many : Bool) (t₀ : Trace) (s₀ : Source) (bytes line₀ rows₀ statics₀ out₀ : List ℕ) (t : Trace) (s : Source) (len : ℕ)
     (line rows statics out : List ℕ) : Type 0 where
   pub long-line : length line ≡ length line₀
@@ -189,10 +196,15 @@ module _ {many : Bool} {t₀ : Trace} {s₀ : Source} {bytes line₀ rows₀ sta
     {line rows statics out : List ℕ} (r : Rounds many t₀ s₀ bytes line₀ rows₀ statics₀ out₀ t s len line rows statics out) where
   -- the columns are as long as they were
   pub columns-still : Columns rows₀ statics₀ → Columns rows statics
-  columns-still c = record { rows-long = omega (arith, r .long-rows, c .rows-long); statics-long = omega (arith, r .long-rows, r .long-statics, c .statics-long) }
+  columns-still c =
+      record {
+        rows-long = omega (arith, r .long-rows, c .rows-long);
+        statics-long = omega (arith, r .long-rows, r .long-statics, c .statics-long);
+      }
 
 module _ {many : Bool} {t₀ : Trace} {s₀ : Source} {bytes line₀ rows₀ statics₀ out₀ : List ℕ} {t : Trace} {s : Source} {len : ℕ}
-    {line rows statics out : List ℕ} (r : Rounds many t₀ s₀ bytes line₀ rows₀ statics₀ out₀ t s len line rows statics out) {n : Next} {line′ : List ℕ}
+    {line rows statics out : List ℕ}
+    (r : Rounds many t₀ s₀ bytes line₀ rows₀ statics₀ out₀ t s len line rows statics out) {n : Next} {line′ : List ℕ}
     (looked : NextLine s bytes n line line′) (small : length line₀ ≤ 18446744073709551615) where
   -- a line more
   pub round : {a : After} {rows′ statics′ out′ : List ℕ} → n .found ≡ Line → lineRoom ≤ length line₀ → length out₀ ≤ 18446744073709551615
@@ -220,11 +232,14 @@ module _ {many : Bool} {t₀ : Trace} {s₀ : Source} {bytes line₀ rows₀ sta
           line-fed f (r .same-end) short (omega (arith, r .long-line)) (same-ended looked) first turned
 
   -- no line more
-  module _ {x : Fed} (answer : x ≡ record { trace = t; source = n .source; len = len; more = goesOn many (n .source .ended) (t .awaited) }) where
-    none-taken : n .found ≡ More ⊎ n .found ≡ End → (text : List ℕ) → Taken s bytes text n line′ (n .found) → NoneTaken s bytes text (n .source) line′
+  module _ {x : Fed}
+      (answer : x ≡ record { trace = t; source = n .source; len = len; more = goesOn many (n .source .ended) (t .awaited) }) where
+    none-taken : n .found ≡ More ⊎ n .found ≡ End → (text : List ℕ) → Taken s bytes text n line′ (n .found)
+        → NoneTaken s bytes text (n .source) line′
     none-taken w text t = ⊎-elim (λ (is : n .found ≡ More). rw is at t) (λ (is : n .found ≡ End). rw is at t) w
 
-    pub rounds-end : n .found ≡ More ⊎ n .found ≡ End → (y : State) (text : List ℕ) → Stands t₀ rows₀ statics₀ y → Kept text (s₀ .held) line₀
+    pub rounds-end : n .found ≡ More ⊎ n .found ≡ End → (y : State) (text : List ℕ) → Stands t₀ rows₀ statics₀ y
+        → Kept text (s₀ .held) line₀
         → Feeds many y s₀ bytes text x rows statics line′ out₀ out
     rounds-end w y text stands k =
         let f = r .fed y text stands k in
@@ -239,7 +254,8 @@ module _ {many : Bool} {t₀ : Trace} {s₀ : Source} {bytes line₀ rows₀ sta
         rw answer (counts len out (omega (arith, r .few, r .long-out, few-remaining s₀ bytes)))
 
 -- the buffers are as long as they were
-pub buffers-still : {line₀ rows₀ statics₀ line rows statics : List ℕ} → Buffers line₀ rows₀ statics₀ → length line ≡ length line₀ → length rows ≡ length rows₀
+pub buffers-still : {line₀ rows₀ statics₀ line rows statics : List ℕ} → Buffers line₀ rows₀ statics₀ → length line ≡ length line₀
+    → length rows ≡ length rows₀
     → length statics ≡ length statics₀ → Buffers line rows statics
 buffers-still b l r s =
     record {
@@ -254,7 +270,8 @@ sound-first is = record { state = first; stands = for-first is }
 -- one read, and its lines
 pub read-answered : {many : Bool} {t : Trace} {s source : Source} {r : Fed} {bytes line line′ rows rows′ statics statics′ out out′ : List ℕ}
     → Refilled s source bytes
-    → ((x : State) (text : List ℕ) → Stands t rows statics x → Kept text (source .held) line → Feeds many x source bytes text r rows′ statics′ line′ out out′)
+    → ((x : State) (text : List ℕ) → Stands t rows statics x → Kept text (source .held) line
+    → Feeds many x source bytes text r rows′ statics′ line′ out out′)
     → ReadAnswered many t s r bytes line line′ rows rows′ statics statics′ out out′
 read-answered {source = source} refilled fed =
     let same = ap (λ (x : Source). x .held) (refilled .answer) in

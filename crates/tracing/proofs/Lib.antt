@@ -4,3 +4,4 @@ pub mod Stepping
 pub mod Cut
 pub mod AllLines
 pub mod OneOutput
+pub mod Joining

@@ -41,7 +41,8 @@ record SameSheet (s s′ : List ℕ) (r r′ : Answer) : Type 0 where
   bytes-same : s ≡ s′
   answer-same : r ≡ r′
 
-same-sheet : (line : List ℕ) {s s′ : List ℕ} {r r′ : Answer} → sheetLine line ≡ bytes s → sheetLine line ≡ bytes s′ → Checked s r → Checked s′ r′
+same-sheet : (line : List ℕ) {s s′ : List ℕ} {r r′ : Answer} → sheetLine line ≡ bytes s → sheetLine line ≡ bytes s′ → Checked s r
+    → Checked s′ r′
     → SameSheet s s′ r r′
 same-sheet line {s} {s′} a b c d =
     let both : bytes s ≡ bytes s′ = sym a ∙ b in
@@ -58,7 +59,8 @@ same-opened {s} {s′} {I} {I′} {O} {O′} is a b =
     rw (is, inputs, outputs)
 
 -- a reaction to an event
-same-reaction : (line : List ℕ) {s : List ℕ} {state event event′ : ℕ} {r r′ : Reaction} → eventLine line ≡ Is event → eventLine line ≡ Is event′
+same-reaction : (line : List ℕ) {s : List ℕ} {state event event′ : ℕ} {r r′ : Reaction} → eventLine line ≡ Is event
+    → eventLine line ≡ Is event′
     → Once (ReactedMany s) state event r → Once (ReactedMany s) state event′ r′ → r ≡ r′
 same-reaction line {s} {state} {event} {event′} a b c d =
     let both : Is event ≡ Is event′ = sym a ∙ b in
@@ -102,7 +104,8 @@ one-step (running h) {line} (instant a c p) (instant b d q) =
     record { state = ap (λ (r : Reaction). running (moved h r)) one; text = ap (instantOf h) one }
 one-step stopped after-stop after-stop = same
 
--- so the contract of a step leaves open only how the code keeps its state: two answers stand for one state, and place and buffer are the same
+-- so the contract of a step leaves open only how the code keeps its state: two answers stand for one state, and place and buffer are the
+-- same
 pub record SameAnswer (r r′ : After) (rows statics rows′ statics′ out out′ : List ℕ) : Type 0 where
   pub state : State
   pub one : Stands (r .trace) rows statics state
@@ -110,7 +113,8 @@ pub record SameAnswer (r r′ : After) (rows statics rows′ statics′ out out�
   pub place : r .end ≡ r′ .end
   pub buffer : out ≡ out′
 
-pub one-stepped : {t : Trace} (x : State) (line : List ℕ) {at : ℕ} {rows statics out : List ℕ} {r r′ : After} {rows₁ rows₂ statics₁ statics₂ out₁ out₂ : List ℕ}
+pub one-stepped : {t : Trace} (x : State) (line : List ℕ) {at : ℕ} {rows statics out : List ℕ} {r r′ : After}
+    {rows₁ rows₂ statics₁ statics₂ out₁ out₂ : List ℕ}
     → Stands t rows statics x → Does (stepOf line) t at r rows rows₁ statics statics₁ out out₁
     → Does (stepOf line) t at r′ rows rows₂ statics statics₂ out out₂ → SameAnswer r r′ rows₁ statics₁ rows₂ statics₂ out₁ out₂
 one-stepped x line stands a b =
@@ -125,13 +129,15 @@ one-stepped x line stands a b =
       buffer = did .written .laid ∙ rw (one .text) (sym (does .written .laid));
     }
 
-one-turn : (many : Bool) (t : State) {line : List ℕ} {u v : State} {x y : List ℕ} → Turn many t line u x → Turn many t line v y → SameStep u v x y
+one-turn : (many : Bool) (t : State) {line : List ℕ} {u v : State} {x y : List ℕ} → Turn many t line u x → Turn many t line v y
+    → SameStep u v x y
 one-turn many t (a-step other a) (a-step other′ b) = one-step t a b
 one-turn many t (a-step other a) (anew is) = true-false (sym is ∙ other)
 one-turn many t (anew is) (a-step other b) = true-false (sym is ∙ other)
 one-turn many t (anew is) (anew is′) = same
 
-pub one-printed : (many : Bool) (t : State) (lines : List (List ℕ)) {u v : State} {x y : List ℕ} → Printed many t lines u x → Printed many t lines v y
+pub one-printed : (many : Bool) (t : State) (lines : List (List ℕ)) {u v : State} {x y : List ℕ} → Printed many t lines u x
+    → Printed many t lines v y
     → SameStep u v x y
 one-printed many t [] no-line no-line = same
 one-printed many t (line ∷ lines) (next-line {t₁ = u} a p) (next-line b q) =
@@ -144,7 +150,8 @@ pub one-output : (input : List ℕ) {x y : List ℕ} → Traced input x → Trac
 one-output input a b = one-printed false first _ (a .printed) (b .printed) .text
 
 -- the contract of the whole trace leaves nothing open
-pub one-answer : (input : List ℕ) {n n′ : ℕ} {out out₁ out₂ : List ℕ} → Answered input n out out₁ → Answered input n′ out out₂ → (n ≡ n′) × (out₁ ≡ out₂)
+pub one-answer : (input : List ℕ) {n n′ : ℕ} {out out₁ out₂ : List ℕ} → Answered input n out out₁ → Answered input n′ out out₂
+    → (n ≡ n′) × (out₁ ≡ out₂)
 one-answer input a b =
     let one = one-output input (a .traced) (b .traced) in
     (a .written .past ∙ rw one (sym (b .written .past)), a .written .laid ∙ rw one (sym (b .written .laid)))

@@ -11,6 +11,7 @@ use Rattle.number.specs.declared.Refusal.the-variants.{Word, Name, Cover, Order
 use Rattle.number.specs.Refusals.{refusalNo}
 use Rattle.sheet.specs.declared.Counts.{Counts}
 use Rattle.sheet.specs.Read.{Sheet, sheet, faulty}
+use Rattle.agreement.proofs.WordRuns.{fresh-fits}
 use Rattle.compiler.specs.Check.{Checks, accepted}
 use Rattle.compiler.proofs.Passing.{judged-read}
 use Rattle.interpreter.proofs.Interpreting.{Compiled-as, prepared}
@@ -59,7 +60,8 @@ headed {w = w} (accepted order is ordered) inputs outputs =
     record { read-as = w; is = judged-read is .read; inputs-are = inputs; outputs-are = outputs }
 
 -- one that is accepted is ready
-pub opens-sheet : {s rows statics cells : List ℕ} {c : Counts} {n at : ℕ} {r : After} {out out′ : List ℕ} → Compiled-as s c n rows statics cells
+pub opens-sheet : {s rows statics cells : List ℕ} {c : Counts} {n at : ℕ} {r : After} {out out′ : List ℕ}
+    → Compiled-as s c n rows statics cells
     → Ready rows c n (r .trace) → Puts (okText (c .statements) n) at (r .end) out out′ → Opens s at r rows statics out out′
 opens-sheet {c = c} {n = n} a t p =
     is-opened {a = acceptance (c .statements) n} (checked-accepted a) refl
@@ -71,5 +73,6 @@ opens-sheet {c = c} {n = n} a t p =
       ready = prepared a (t .prepares);
       outputs = t .outputs;
       state = sym (t .fresh);
+      fit = record { answer = λ s _. rw (t .fresh) (sym (fresh-fits s)) };
       instants = sym (t .none);
     })

@@ -21,7 +21,8 @@ module _ (x k : ℕ) where
   low-end : (d : ℕ) → has (x * 2 ^ (suc d + k)) k ≡ false
   unfolding has
   low-end d =
-      let parts : x * 2 ^ (suc d + k) ≡ x * 2 ^ d * 2 * 2 ^ k = rw (pow-add 2 (suc d) k, pow-suc 2 d, mul-assoc x (2 ^ d) 2, mul-assoc x (2 ^ d * 2) (2 ^ k)) in
+      let parts : x * 2 ^ (suc d + k) ≡ x * 2 ^ d * 2 * 2 ^ k = rw
+      (pow-add 2 (suc d) k, pow-suc 2 d, mul-assoc x (2 ^ d) 2, mul-assoc x (2 ^ d * 2) (2 ^ k)) in
       rw (parts, shl-shr (x * 2 ^ d * 2) k, mul-mod-left (x * 2 ^ d) 2)
 
   shifted-up : (a : ℕ) → has (x * 2 ^ a) (a + k) ≡ has x k
@@ -79,7 +80,8 @@ one-added {I} {s} {set} after a more = record { these = λ j h. more j ∙ rw (a
   where
     by-place : (j : ℕ) → Dec (j < s) → Dec (s < j) → ((ltb I j && ltb j s) || eqb j s) ≡ (ltb I j && ltb j (s + 1))
     by-place j (yes h) q = rw (lt-ltb j s h, lt-ltb j (s + 1) (omega arith), ne-eqb j s (λ e. omega arith)) (or-false (ltb I j && true))
-    by-place j (no h) (yes g) = rw (le-ltb j s (omega arith), le-ltb j (s + 1) (omega arith), ne-eqb j s (λ e. omega arith)) (or-false (ltb I j && false))
+    by-place j (no h) (yes g) =
+        rw (le-ltb j s (omega arith), le-ltb j (s + 1) (omega arith), ne-eqb j s (λ e. omega arith)) (or-false (ltb I j && false))
     by-place j (no h) (no g) =
         let same : j ≡ s = omega arith in
         rw (same, lt-ltb I s after, le-ltb s s (omega arith), eq-eqb s s refl, lt-ltb s (s + 1) (omega arith))
@@ -103,7 +105,8 @@ met-outputs I O signals {set} {met} proper outs both = ext met (outputsIn I O (w
   where
     by-width : (j : ℕ) → Dec (j < width) → has met j ≡ has (outputsIn I O (whole signals)) j
     by-width j (yes h) =
-        both j ∙ rw (outs .these j h) (and-comm (has (whole signals) j) (ltb I j && leb j (I + O)) ∙ sym (has-outputs I O (whole signals) j))
+        both j ∙ rw (outs .these j h)
+        (and-comm (has (whole signals) j) (ltb I j && leb j (I + O)) ∙ sym (has-outputs I O (whole signals) j))
     by-width j (no h) =
         let none = has-wide {b = signals} proper j (omega arith) in
         both j ∙ rw none (sym (has-outputs I O (whole signals) j ∙ rw none (and-comm (ltb I j && leb j (I + O)) false)))

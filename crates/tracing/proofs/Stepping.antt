@@ -7,6 +7,7 @@ use native.Mathlib.Omega.{arith}
 use borrow.Author.Tests.{le-leb, lt-leb}
 use lib.ListN.{length, take}
 use Rattle.bits.specs.Bits.{whole}
+use Rattle.rules.specs.Words.{Fitted}
 use Rattle.compiler.specs.Check.{Accepted}
 use Rattle.sheet.specs.Read.{Sheet}
 use Rattle.interpreter.specs.Program.{PreparedAs, Prepared, AcceptedRuns, ProgramReacts}
@@ -53,7 +54,8 @@ module _ {move : Move} {t : Trace} {at : ℕ} {r : After} {rows rows′ statics 
       by-state (running h) (for-running e held) = did h held
       by-state stopped (for-stopped e) = let z : _≡_ {A = ℕ} 0 1 = cc in absurd (omega arith)
 
-  from-stopped : t .awaited ≡ Nothing → Leads move stopped at r rows′ statics′ out out′ → Does move t at r rows rows′ statics statics′ out out′
+  from-stopped : t .awaited ≡ Nothing → Leads move stopped at r rows′ statics′ out out′
+      → Does move t at r rows rows′ statics statics′ out out′
   from-stopped is did = record { from = by-state }
     where
       by-state : (x : State) → Stands t rows statics x → Leads move x at r rows′ statics′ out out′
@@ -61,17 +63,19 @@ module _ {move : Move} {t : Trace} {at : ℕ} {r : After} {rows rows′ statics 
       by-state (running h) (for-running e held) = let z : _≡_ {A = ℕ} 0 1 = cc in absurd (omega arith)
       by-state stopped (for-stopped e) = did
 
--- where an event is awaited a program is ready
-pub sound-ready : {t : Trace} {rows statics : List ℕ} → Sound t rows statics → t .awaited ≡ Event → Prepared (t .program) rows statics
+-- where an event is awaited a program is ready, and the state fits
+pub sound-ready : {t : Trace} {rows statics : List ℕ} → Sound t rows statics → t .awaited ≡ Event
+    → Prepared (t .program) rows statics × Fitted rows (whole (t .state)) true
 sound-ready {t} {rows} {statics} sound is = by-state (sound .state) (sound .stands)
   where
-    by-state : (x : State) → Stands t rows statics x → Prepared (t .program) rows statics
+    by-state : (x : State) → Stands t rows statics x → Prepared (t .program) rows statics × Fitted rows (whole (t .state)) true
     by-state first (for-first e) = let z : _≡_ {A = ℕ} 0 1 = cc in absurd (omega arith)
-    by-state (running h) (for-running e held) = record { read = held .read-as; is = held .ready }
+    by-state (running h) (for-running e held) = (record { read = held .read-as; is = held .ready }, held .fit)
     by-state stopped (for-stopped e) = let z : _≡_ {A = ℕ} 0 1 = cc in absurd (omega arith)
 
 -- a line that ends the trace
-stops : {x : State} {line text : List ℕ} {at : ℕ} {r : After} {rows′ statics′ out out′ : List ℕ} → Steps x line stopped text → Prints Nothing text at r out out′
+stops : {x : State} {line text : List ℕ} {at : ℕ} {r : After} {rows′ statics′ out out′ : List ℕ} → Steps x line stopped text
+    → Prints Nothing text at r out out′
     → Leads (stepOf line) x at r rows′ statics′ out out′
 stops did p = record { next = stopped; text = _; moves = did; stands = for-stopped (p .awaits); written = p .written }
 
@@ -93,10 +97,12 @@ module _ (line : List ℕ) {x : Hex} {buffer buffer′ : List ℕ} (few : length
   these good = read-as (were-bytes read good)
 
 module _ {t : Trace} (is : t .awaited ≡ ASheet) (line : List ℕ) {at : ℕ} {r : After} {rows rows′ statics statics′ out out′ : List ℕ} where
-  pub first-long : sheetDigits < length line → Prints Nothing badText at r out out′ → Does (stepOf line) t at r rows rows′ statics statics′ out out′
+  pub first-long : sheetDigits < length line → Prints Nothing badText at r out out′
+      → Does (stepOf line) t at r rows rows′ statics statics′ out out′
   first-long h p = from-first is (stops (sheet-malformed (too-long line h)) p)
 
-  module _ {x : Hex} {buffer buffer′ : List ℕ} (few : length line ≤ sheetDigits) (long : sheetRoom ≤ length buffer) (read : Unhexed line x buffer buffer′) where
+  module _ {x : Hex} {buffer buffer′ : List ℕ} (few : length line ≤ sheetDigits) (long : sheetRoom ≤ length buffer)
+      (read : Unhexed line x buffer buffer′) where
     pub first-bad : x .good ≡ false → Prints Nothing badText at r out out′ → Does (stepOf line) t at r rows rows′ statics statics′ out out′
     first-bad bad p = from-first is (stops (sheet-malformed (read-as line few long read (were-none read bad))) p)
 
@@ -116,10 +122,12 @@ module _ {t : Trace} (is : t .awaited ≡ ASheet) (line : List ℕ) {at : ℕ} {
             }
 
 -- the reactions of the program made ready are those of its sheet
-react-of : {s : List ℕ} {w : Sheet} {state event : ℕ} {r : Reaction} → Accepted s w → Once (AcceptedRuns w) state event r → Once (ReactedMany s) state event r
+react-of : {s : List ℕ} {w : Sheet} {state event : ℕ} {r : Reaction} → Accepted s w → Once (AcceptedRuns w) state event r
+    → Once (ReactedMany s) state event r
 react-of was o = record { told = o .told; ran = many-ran was (o .ran); is = o .is }
 
-reacted : {t : Trace} {rows statics : List ℕ} {event : ℕ} {r : Reaction} {h : Held} → ProgramReacts (t .program) rows statics (whole (t .state)) event r
+reacted : {t : Trace} {rows statics : List ℕ} {event : ℕ} {r : Reaction} {h : Held}
+    → ProgramReacts (t .program) rows statics (whole (t .state)) event r
     → Holding t rows statics h → Once (ReactedMany (h .sheet)) (h .state) event r
 reacted reacts held = rw (held .state) (react-of (held .accepts) (reacts .reacts (held .read-as) (held .ready)))
 
@@ -128,13 +136,15 @@ is-event : (line : List ℕ) {e : SetRead} → SetIs (valueOf 16 eventDigits lin
 unfolding eventLine
 is-event line read good = was-set read good
 
-module _ {t : Trace} (awaits : t .awaited ≡ Event) (line : List ℕ) {e : SetRead} (read : SetIs (valueOf 16 eventDigits line) e) {at : ℕ} {a : After}
+module _ {t : Trace} (awaits : t .awaited ≡ Event) (line : List ℕ) {e : SetRead} (read : SetIs (valueOf 16 eventDigits line) e) {at : ℕ}
+    {a : After}
     {rows statics out out′ : List ℕ} where
   pub event-bad : e .good ≡ false → Prints Nothing badText at a out out′ → Does (stepOf line) t at a rows rows statics statics out out′
   unfolding eventLine
   event-bad bad p = from-running awaits (λ h held. stops (event-malformed (was-no-set read bad)) p)
 
-  module _ (good : e .good ≡ true) {r : Reaction} (reacts : ProgramReacts (t .program) rows statics (whole (t .state)) (whole (e .set)) r) where
+  module _ (good : e .good ≡ true) {r : Reaction}
+      (reacts : ProgramReacts (t .program) rows statics (whole (t .state)) (whole (e .set)) r) where
     pub event-no : 0 < r .number → a .trace ≡ t → Puts (refusedText (r .number) (r .place)) at (a .end) out out′
         → Does (stepOf line) t at a rows rows statics statics out out′
     event-no some same p =
@@ -148,8 +158,9 @@ module _ {t : Trace} (awaits : t .awaited ≡ Event) (line : List ℕ) {e : SetR
           written = p;
         })
 
-    pub event-instant : r .number ≡ 0 → Moves t r at a out out′ → Does (stepOf line) t at a rows rows statics statics out out′
-    event-instant none m =
+    pub event-instant : Fitted rows (whole (r .state)) true → r .number ≡ 0 → Moves t r at a out out′
+        → Does (stepOf line) t at a rows rows statics statics out out′
+    event-instant fit none m =
         from-running awaits
         (λ h held.
         record {
@@ -165,6 +176,7 @@ module _ {t : Trace} (awaits : t .awaited ≡ Event) (line : List ℕ) {e : SetR
                 ready = held .ready;
                 outputs = held .outputs;
                 state = refl;
+                fit = fit;
                 instants = ap counted (held .instants);
               }));
           written = rw (held .instants) (m .written (h .inputs) (h .outputs) (held .outputs));

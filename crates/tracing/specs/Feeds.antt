@@ -2,7 +2,7 @@
 -- The lines of the bytes that reads bring are answered.
 use mathlib.Core.Path.{_≡_}
 use mathlib.Core.Bool.{Bool, true, false}
-use mathlib.Core.List.{List}
+use mathlib.Core.List.{List, [], _∷_, _++_}
 use Prim.Native.Nat.{ℕ, _≤_}
 use lib.ListN.{length}
 use Rattle.texts.specs.declared.Source.{Source}
@@ -14,7 +14,7 @@ use Rattle.tracing.specs.declared.Awaited.the-variants.{Sheet, Event, No
 use Rattle.tracing.specs.declared.Trace.{Trace}
 use Rattle.tracing.specs.declared.Fed.{Fed}
 use Rattle.tracing.specs.Sizes.{lineRoom}
-use Rattle.tracing.specs.Steps.{State}
+use Rattle.tracing.specs.Steps.{State, stopped}
 use Rattle.tracing.specs.Stands.{Columns, Stands, Move}
 use Rattle.tracing.specs.Output.{Turn, Printed}
 
@@ -35,9 +35,10 @@ pub record Buffers (line rows statics : List ℕ) : Type 0 where
   pub line-long : lineRoom ≤ length line
   pub columns : Columns rows statics
 
--- The lines of the bytes at hand were answered from the state x on, and what is left of a line that has not ended is kept; `text` are the bytes of that line
--- that were kept before.
-pub record Feeds (many : Bool) (x : State) (s : Source) (bytes text : List ℕ) (r : Fed) (rows′ statics′ line′ out out′ : List ℕ) : Type 0 where
+-- The lines of the bytes at hand were answered from the state x on, and what is left of a line that has not ended is kept; `text` are the
+-- bytes of that line that were kept before.
+pub record Feeds (many : Bool) (x : State) (s : Source) (bytes text : List ℕ) (r : Fed)
+    (rows′ statics′ line′ out out′ : List ℕ) : Type 0 where
   pub next : State
   pub output : List ℕ
   pub printed : Printed many x (linesIn (s .ended) text (atHand s bytes)) next output
@@ -47,8 +48,24 @@ pub record Feeds (many : Bool) (x : State) (s : Source) (bytes text : List ℕ) 
   pub onward : r .more ≡ goesOn many (s .ended) (r .trace .awaited)
 
 -- One read, whose bytes are those of the slice after it, was answered.
-pub record ReadAnswered (many : Bool) (t : Trace) (s : Source) (r : Fed) (bytes line line′ rows rows′ statics statics′ out out′ : List ℕ) : Type 0 where
+pub record ReadAnswered (many : Bool) (t : Trace) (s : Source) (r : Fed)
+    (bytes line line′ rows rows′ statics statics′ out out′ : List ℕ) : Type 0 where
   pub source : Source
   pub refilled : Refilled s source bytes
   pub fed : (x : State) (text : List ℕ) → Stands t rows statics x → Kept text (s .held) line
       → Feeds many x source bytes text r rows′ statics′ line′ out out′
+
+-- One trace in several reads, each with the bytes of a line that were kept before it: the lines of each are printed in turn, until a read
+-- brings nothing more, or the trace has stopped and what is left is not read. That the loop around `feed` does so no contract can say;
+-- `all-reads` says what comes of it.
+pub data InReads : State → List ℕ → List (List ℕ) → List ℕ → Type 0 where
+  last-read : {t u : State} {held bytes text : List ℕ} → Printed false t (linesIn true held bytes) u text → InReads t held (bytes ∷ []) text
+  read-more : {t u : State} {held bytes text rest : List ℕ} {reads : List (List ℕ)} → Printed false t (linesIn false held bytes) u text
+      → InReads u (linesFrom held bytes .left) reads rest → InReads t held (bytes ∷ reads) (text ++ rest)
+  stopped-there : {t : State} {held bytes text : List ℕ} {reads : List (List ℕ)} → Printed false t (linesIn false held bytes) stopped text
+      → InReads t held (bytes ∷ reads) text
+
+-- all bytes that they bring
+unfoldable pub allRead : List (List ℕ) → List ℕ
+allRead [] = []
+allRead (bytes ∷ reads) = bytes ++ allRead reads

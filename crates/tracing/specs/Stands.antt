@@ -2,7 +2,7 @@
 -- A trace in the code: its state, with the columns of the program that was made ready, and what the functions behind a line's step answer.
 use Prim.Native.Nat.{ℕ, _+_, _<_, _≤_}
 use mathlib.Core.Path.{_≡_}
-use mathlib.Core.Bool.{_&&_}
+use mathlib.Core.Bool.{true, _&&_}
 use mathlib.Core.List.{List}
 use lib.Dec.{leb, ltb}
 use lib.ListN.{length}
@@ -11,6 +11,7 @@ use Rattle.limits.specs.Limits.{maxStatements}
 use Rattle.sheet.specs.declared.Counts.{Counts}
 use Rattle.sheet.specs.Read.{Sheet}
 use Rattle.rules.specs.States.{atRest}
+use Rattle.rules.specs.Words.{Fitted}
 use Rattle.compiler.specs.Check.{Accepted}
 use Rattle.interpreter.specs.Program.{PreparedAs, Prepares}
 use Rattle.verdicts.specs.declared.Answer.{Answer}
@@ -33,13 +34,14 @@ pub record Columns (rows statics : List ℕ) : Type 0 where
   pub rows-long : maxStatements ≤ length rows
   pub statics-long : length rows ≤ length statics
 
--- the program made ready stands for the sheet, and the rest is what is held
+-- the program made ready stands for the sheet, the state fits, and the rest is what is held
 pub record Holding (t : Trace) (rows statics : List ℕ) (h : Held) : Type 0 where
   pub read-as : Sheet
   pub accepts : Accepted (h .sheet) read-as
   pub ready : PreparedAs (t .program) rows statics read-as
   pub outputs : Outputs (h .inputs) (h .outputs) (whole (t .outputs))
   pub state : h .state ≡ whole (t .state)
+  pub fit : Fitted rows (whole (t .state)) true
   pub instants : h .instants ≡ t .instants
 
 -- what the code's state means
@@ -59,9 +61,12 @@ pub record Prints (next : Awaited) (text : List ℕ) (at : ℕ) (r : After) (out
 
 -- An instant was accepted.
 pub record Moves (t : Trace) (r : Reaction) (at : ℕ) (a : After) (out out′ : List ℕ) : Type 0 where
-  pub next : a .trace ≡ record { awaited = Event; program = t .program; outputs = t .outputs; state = r .state; instants = counted (t .instants) }
+  pub next : a .trace
+      ≡ record { awaited = Event; program = t .program; outputs = t .outputs; state = r .state; instants = counted (t .instants) }
   pub written : (I O : ℕ) → Outputs I O (whole (t .outputs))
-      → Puts (instantText (counted (t .instants)) (outputsIn I O (whole (r .signals))) (whole (r .state)) (atRest (has (whole (r .state))))) at (a .end) out out′
+      → Puts
+      (instantText (counted (t .instants)) (outputsIn I O (whole (r .signals))) (whole (r .state)) (atRest (has (whole (r .state)))))
+      at (a .end) out out′
 
 -- The trace of a sheet that was compiled to these rows, with these counts and so many cells, before its first event.
 pub record Ready (rows : List ℕ) (c : Counts) (n : ℕ) (t : Trace) : Type 0 where
@@ -75,7 +80,8 @@ pub record Ready (rows : List ℕ) (c : Counts) (n : ℕ) (t : Trace) : Type 0 w
 pub data Opens (s : List ℕ) (at : ℕ) (r : After) (rows′ statics′ out out′ : List ℕ) : Type 0 where
   not-opened : {a : Answer} → Checked s a → 0 < a .number → Prints Nothing (refusedText (a .number) (a .place)) at r out out′
       → Opens s at r rows′ statics′ out out′
-  is-opened : {a : Answer} {I O : ℕ} → Checked s a → a .number ≡ 0 → Headed s I O → Prints Event (okText (a .statements) (a .cells)) at r out out′
+  is-opened : {a : Answer} {I O : ℕ} → Checked s a → a .number ≡ 0 → Headed s I O
+      → Prints Event (okText (a .statements) (a .cells)) at r out out′
       → Holding (r .trace) rows′ statics′ (opened s I O) → Opens s at r rows′ statics′ out out′
 
 -- What a line does to a state of the definition: the next state, and the text.

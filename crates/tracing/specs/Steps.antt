@@ -63,14 +63,16 @@ outputsIn I O w = w / 2 ^ (1 + I) % 2 ^ O * 2 ^ (1 + I)
 
 -- after an instant
 abbrev pub moved : Held → Reaction → Held
-moved h r = record { sheet = h .sheet; inputs = h .inputs; outputs = h .outputs; state = whole (r .state); instants = counted (h .instants) }
+moved h r =
+    record { sheet = h .sheet; inputs = h .inputs; outputs = h .outputs; state = whole (r .state); instants = counted (h .instants) }
 
 abbrev pub instantOf : Held → Reaction → List ℕ
 instantOf h r =
-    instantText (counted (h .instants)) (outputsIn (h .inputs) (h .outputs) (whole (r .signals))) (whole (r .state)) (atRest (has (whole (r .state))))
+    instantText (counted (h .instants)) (outputsIn (h .inputs) (h .outputs) (whole (r .signals))) (whole (r .state))
+    (atRest (has (whole (r .state))))
 
--- One line's step, from a state and the line to a state and the text that is printed. "after a refused sheet it stops, after a refused event the instant
--- isn't counted"; "Any other line is malformed, prints `bad line` and stops."
+-- One line's step, from a state and the line to a state and the text that is printed. "after a refused sheet it stops, after a refused event
+-- the instant isn't counted"; "Any other line is malformed, prints `bad line` and stops."
 pub data Steps : State → List ℕ → State → List ℕ → Type 0 where
   sheet-malformed : {line : List ℕ} → sheetLine line ≡ malformed → Steps first line stopped badText
   sheet-refused : {line s : List ℕ} {r : Answer} → sheetLine line ≡ bytes s → Checked s r → 0 < r .number
@@ -78,8 +80,10 @@ pub data Steps : State → List ℕ → State → List ℕ → Type 0 where
   sheet-accepted : {line s : List ℕ} {r : Answer} {I O : ℕ} → sheetLine line ≡ bytes s → Checked s r → r .number ≡ 0 → Headed s I O
       → Steps first line (running (opened s I O)) (okText (r .statements) (r .cells))
   event-malformed : {h : Held} {line : List ℕ} → eventLine line ≡ Bad → Steps (running h) line stopped badText
-  event-refused : {h : Held} {line : List ℕ} {event : ℕ} {r : Reaction} → eventLine line ≡ Is event → Once (ReactedMany (h .sheet)) (h .state) event r → 0 < r .number
+  event-refused : {h : Held} {line : List ℕ} {event : ℕ} {r : Reaction} → eventLine line ≡ Is event
+      → Once (ReactedMany (h .sheet)) (h .state) event r → 0 < r .number
       → Steps (running h) line (running h) (refusedText (r .number) (r .place))
-  instant : {h : Held} {line : List ℕ} {event : ℕ} {r : Reaction} → eventLine line ≡ Is event → Once (ReactedMany (h .sheet)) (h .state) event r → r .number ≡ 0
+  instant : {h : Held} {line : List ℕ} {event : ℕ} {r : Reaction} → eventLine line ≡ Is event
+      → Once (ReactedMany (h .sheet)) (h .state) event r → r .number ≡ 0
       → Steps (running h) line (running (moved h r)) (instantOf h r)
   after-stop : {line : List ℕ} → Steps stopped line stopped []

@@ -29,4 +29,5 @@ restText false = blank ∷ (45 ∷ (newline ∷ []))
 
 -- "then instant, outputs in hex, state in hex, `R` at rest or `-`"
 unfoldable pub instantText : ℕ → ℕ → ℕ → Bool → List ℕ
-instantText instant outputs state rest = decimal instant ++ ((blank ∷ []) ++ (hex outputs ++ ((blank ∷ []) ++ (hex state ++ restText rest))))
+instantText instant outputs state rest =
+    decimal instant ++ ((blank ∷ []) ++ (hex outputs ++ ((blank ∷ []) ++ (hex state ++ restText rest))))

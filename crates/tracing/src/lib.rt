@@ -14,9 +14,10 @@ use sheet::Counts;
 use texts::Source;
 use verdicts::Reaction;
 ghost use mathlib.Core.Path.{_≡_};
+ghost use mathlib.Core.Bool.{true};
 ghost use Prim.Native.Nat.{ℕ};
 ghost use Rattle.bits.specs.Bits.{whole};
-ghost use Rattle.rules.specs.Words.{Runnable, root};
+ghost use Rattle.rules.specs.Words.{Runnable, root, Fitted};
 ghost use Rattle.interpreter.specs.Program.{Prepared};
 ghost use Rattle.texts.specs.Written.{badText};
 ghost use Rattle.texts.specs.Puts.{Puts};
@@ -228,7 +229,7 @@ fn event_line(
     out: &mut [u8],
     at: usize,
 ) -> After
-    requires { ⌜ Prepared (trace .program) (now rows) (now statics) × (trace .awaited ≡ Awaited.Event) ⌝ }
+    requires { ⌜ Prepared (trace .program) (now rows) (now statics) × Fitted (now rows) (whole (trace .state)) true × (trace .awaited ≡ Awaited.Event) ⌝ }
     ensures { λ r. ⌜ Does (stepOf (now (line .entry))) trace at r (now (rows .entry)) (now (rows .entry)) (now (statics .entry)) (now (statics .entry))
         (now (out .entry)) (now (out .exit)) ⌝ }
 {

@@ -37,7 +37,9 @@ loop-holds : tie.Need-loop-holds Inv-loop μ-loop
 loop-holds c = λ event given p. reached-first given p
 
 react-requires : tie.Need-react-requires Inv-loop μ-loop
-react-requires c κs = c .before .before .before .pre .0 .run
+react-requires c κs =
+    let start = c .before .before .before in
+    start .pre .0 .run
 
 join-requires : tie.Need-join-requires Inv-loop μ-loop
 join-requires c κs = search needs

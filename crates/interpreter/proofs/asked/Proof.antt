@@ -24,7 +24,8 @@ add-requires c κs = search needs
 
 returns-2 : tie.Need-returns-2
 returns-2 c =
-    let at-signal-bit = c .before .before .before in
+    let at-before = c .before .before in
+    let at-signal-bit = at-before .before in
     let start = at-signal-bit .before in
     covers-only (start .args .x) _ (rw (at-signal-bit .signal-bit .ensures) at (c .add .ensures))
 

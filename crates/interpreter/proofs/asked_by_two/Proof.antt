@@ -27,7 +27,9 @@ returns : tie.Need-returns
 returns c = rw (c .before .enum-told .given .1) (covers-none _ (λ s. refl))
 
 returns-2 : tie.Need-returns-2
-returns-2 c = rw (c .before .before .b .given .1) (c .asked .ensures)
+returns-2 c =
+    let at-b = c .before .before in
+    rw (at-b .b .given .1) (c .asked .ensures)
 
 returns-3 : tie.Need-returns-3
 returns-3 c = rw (c .before .enum-told2 .given .1) (covers-none _ (λ s. refl))

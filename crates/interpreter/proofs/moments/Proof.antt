@@ -38,7 +38,9 @@ loop-holds : tie.Need-loop-holds Inv-loop μ-loop
 loop-holds c = followed-none _ _ _ _ _ _
 
 read-requires : tie.Need-read-requires Inv-loop μ-loop
-read-requires c κs = omega (arith, c .before .before .count .ensures, c .loop-test .taken)
+read-requires c κs =
+    let at-count = c .before .before in
+    omega (arith, at-count .count .ensures, c .loop-test .taken)
 
 agreed-requires : tie.Need-agreed-requires Inv-loop μ-loop
 agreed-requires c κs =
@@ -49,7 +51,8 @@ agreed-requires c κs =
 
 write-requires : tie.Need-write-requires Inv-loop μ-loop
 write-requires c κs =
-    let at-loop-test = c .before .before .before .before in
+    let at-before = c .before .before .before in
+    let at-loop-test = at-before .before in
     let at-loop = at-loop-test .before in
     let at-count = at-loop .before in
     let start = at-count .before .before .before .before .before in
@@ -61,7 +64,8 @@ next-state-requires c κs = search needs
 
 write-requires-2 : tie.Need-write-requires-2 Inv-loop μ-loop
 write-requires-2 c κs =
-    let at-loop-test = c .before .before .before .before .before .before .before .before .before in
+    let at-before = c .before .before .before .before .before .before .before .before in
+    let at-loop-test = at-before .before in
     let at-loop = at-loop-test .before in
     let at-count = at-loop .before in
     let start = at-count .before .before .before .before .before in
@@ -88,16 +92,22 @@ loop-again c =
 
 same-length : tie.Need-same-length Inv-loop μ-loop
 same-length c =
-    let start = c .before .before .before .before .before .before .before in
+    let at-before = c .before .before .before .before .before .before in
+    let start = at-before .before in
     emissions-long _ _ _ _ _ _ (c .before .loop .inv) (start .pre)
 
 same-length-2 : tie.Need-same-length-2 Inv-loop μ-loop
 same-length-2 c =
-    let start = c .before .before .before .before .before .before .before in
+    let at-before = c .before .before .before .before .before .before in
+    let start = at-before .before in
     states-long _ _ _ _ _ _ (c .before .loop .inv) (start .pre)
 
 returns : tie.Need-returns Inv-loop μ-loop
-returns c = followed-all _ _ _ _ _ _ (c .before .loop .inv) (omega (arith, c .before .before .count .ensures, c .loop-test .left))
+returns c =
+    let at-loop = c .before in
+    let at-count = at-loop .before in
+    let start = at-count .before .before .before .before .before in
+    followed-all _ _ _ _ _ _ (at-loop .loop .inv) (start .pre) (omega (arith, at-count .count .ensures, c .loop-test .left))
 
 pub moments-spec : {M : Type 1} → statement M
 moments-spec =

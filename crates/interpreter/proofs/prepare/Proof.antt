@@ -8,7 +8,9 @@ new-requires : tie.Need-new-requires
 new-requires c κs = search needs
 
 tested-requires : tie.Need-tested-requires
-tested-requires c κs = rw (c .new .ensures) (c .before .before .pre)
+tested-requires c κs =
+    let start = c .before .before in
+    rw (c .new .ensures) (start .pre)
 
 returns : tie.Need-returns
 returns c = record { counts = refl; count = refl; tested = rw (c .before .new .ensures) at (c .tested .ensures) }

@@ -1,85 +1,19 @@
--- What was asked is what the order of faults asks; where nothing stops them the moments are a run.
-use Rattle.bits.specs.Bits.{whole}
-use Rattle.verdicts.specs.Runs.{Asked}
-use Rattle.interpreter.proofs.Reacting.{Judged, inputs-few, prepared-known, program-stopped, may-run, program-ran}
+-- The state is asked whether it fits.
+use Rattle.interpreter.proofs.Reacting.{prepared-known}
 use borrow.Author.Needs.{needs}
 use Rattle.interpreter.proofs.react_many.Statement.{statement}
 use Rattle.interpreter.proofs.react_many.Tie as tie
 
--- what was handed in
-abbrev asked : tie.Start → Asked
-asked c =
-    record { state = whole (c .args .state); events = c .args .events .now; signals = c .args .emissions .now; states = c .args .states .now }
-
--- what was asked of it
-judged : (c : tie.After-first-fault)
-    → Judged (c .before .before .before .before .before .before .before .before .before .before .before .before .before .args .p) (c .before .before .before .before .before .before .before .before .before .before .before .before .before .args .rows .now) (asked (c .before .before .before .before .before .before .before .before .before .before .before .before .before))
-    (c .before .before .before .before .before .needed .result) (c .before .before .before .events-ok .result) (c .before .before .fits2 .result) (c .before .has-room .result) (c .first-fault .result)
-judged c =
-    let at-fits2 = c .before .before in
-    let at-events-ok = at-fits2 .before in
-    let at-needed = at-events-ok .before .before in
-    let start = at-needed .before .before .before .before .before .before .before .before in
-    record {
-      events-asked = at-events-ok .events-ok .ensures;
-      state-asked = at-fits2 .fits2 .ensures;
-      length-asked = at-needed .needed .ensures;
-      room-asked = c .before .has-room .ensures;
-      stop = c .first-fault .ensures;
-    }
-
-needed-requires : tie.Need-needed-requires
-needed-requires c κs = search needs
-
-cast-events-ok : tie.Need-cast-events-ok
-cast-events-ok c = search needs
-
-events-ok-requires : tie.Need-events-ok-requires
-events-ok-requires c κs =
-    let start = c .before .before .before .before .before .before .before .before .before in
-    inputs-few (start .pre .is)
-
 fits-requires : tie.Need-fits-requires
 fits-requires c κs =
-    let start = c .before .before .before .before .before .before .before .before .before .before in
+    let start = c .before .before .before .before .before in
     prepared-known (start .pre .is)
 
-has-room-requires : tie.Need-has-room-requires
-has-room-requires c κs = search needs
-
-first-fault-requires : tie.Need-first-fault-requires
-first-fault-requires c κs = search needs
-
-enum-known-f : tie.Need-enum-known-f
-enum-known-f c = search needs
-
-refusal-requires : tie.Need-refusal-requires
-refusal-requires c κs = search needs
-
-with-state-requires : tie.Need-with-state-requires
-with-state-requires c κs = search needs
-
-enum-told : tie.Need-enum-told
-enum-told c = search needs
-
-moments-requires : tie.Need-moments-requires
-moments-requires c κs =
-    let at-enum-told = c .before .before in
-    let at-first-fault = at-enum-told .before .before in
-    let start = at-first-fault .before .before .before .before .before .before .before .before .before .before .before .before .before in
-    may-run (judged (at-first-fault)) (at-enum-told .enum-told .given .1) (start .pre)
-
-acceptance-requires : tie.Need-acceptance-requires
-acceptance-requires c κs = search needs
-
-with-state-requires-2 : tie.Need-with-state-requires-2
-with-state-requires-2 c κs = search needs
-
-returns : tie.Need-returns
-returns c =
-    let at-f = c .before .before .before in
-    let at-first-fault = at-f .before .before in
-    rw (c .with-state .ensures, c .before .refusal .ensures) (program-stopped (judged (at-first-fault)) (at-f .f .given .1))
+run-from-requires : tie.Need-run-from-requires
+run-from-requires c κs =
+    let at-fits = c .before .before in
+    let start = at-fits .before .before .before .before .before .before in
+    (start .pre, at-fits .fits2 .ensures)
 
 same-length : tie.Need-same-length
 same-length c = search needs
@@ -87,32 +21,10 @@ same-length c = search needs
 same-length-2 : tie.Need-same-length-2
 same-length-2 c = search needs
 
-returns-2 : tie.Need-returns-2
-returns-2 c =
-    let at-moments = c .before .before .before .before .before .before in
-    let at-enum-told = at-moments .before .before .before in
-    let at-first-fault = at-enum-told .before .before in
-    let ran = program-ran (judged (at-first-fault)) (at-enum-told .enum-told .given .1) (at-moments .moments .ensures) in
-    rw (c .with-state2 .ensures, c .before .acceptance .ensures) ran
+returns : tie.Need-returns
+returns c =
+    let at-run-from = c .before .before .before .before in
+    at-run-from .run-from .ensures .0
 
 pub react-many-spec : {M : Type 1} → statement M
-react-many-spec =
-    tie.close
-    (tie.spec
-    needed-requires
-    cast-events-ok
-    events-ok-requires
-    fits-requires
-    has-room-requires
-    first-fault-requires
-    enum-known-f
-    refusal-requires
-    with-state-requires
-    enum-told
-    moments-requires
-    acceptance-requires
-    with-state-requires-2
-    returns
-    same-length
-    same-length-2
-    returns-2)
+react-many-spec = tie.close (tie.spec fits-requires run-from-requires same-length same-length-2 returns)

@@ -22,7 +22,7 @@ returns c =
     let at-if1 = at-bad-line .before .before in
     let at-set-value = at-if1 .before .before in
     let start = at-set-value .before .before .before .before .before in
-    event-bad (start .pre .1) _ (at-set-value .set-value .ensures) (not-true _ (at-if1 .if1 .taken)) (at-bad-line .bad-line .ensures)
+    event-bad (start .pre .2) _ (at-set-value .set-value .ensures) (not-true _ (at-if1 .if1 .taken)) (at-bad-line .bad-line .ensures)
 
 react-requires : tie.Need-react-requires
 react-requires c κs = search needs
@@ -41,7 +41,8 @@ returns-2 c =
     let at-if1 = at-react .before .before .before .before in
     let at-set-value = at-if1 .before .before in
     let start = at-set-value .before .before .before .before .before in
-    event-no (start .pre .1) _ (at-set-value .set-value .ensures) (not-false _ (at-if1 .if1 .left)) (at-react .react .ensures) (at-if2 .if2 .taken) refl (at-refused-line .refused-line .ensures)
+    event-no (start .pre .2) _ (at-set-value .set-value .ensures) (not-false _ (at-if1 .if1 .left)) (at-react .react .ensures .0)
+    (at-if2 .if2 .taken) refl (at-refused-line .refused-line .ensures)
 
 instant-requires : tie.Need-instant-requires
 instant-requires c κs = search needs
@@ -57,7 +58,8 @@ returns-3 c =
     let at-if1 = at-react .before .before .before .before in
     let at-set-value = at-if1 .before .before in
     let start = at-set-value .before .before .before .before .before in
-    event-instant (start .pre .1) _ (at-set-value .set-value .ensures) (not-false _ (at-if1 .if1 .left)) (at-react .react .ensures) (omega (arith, at-if2 .if2 .left)) (at-instant .instant .ensures)
+    event-instant (start .pre .2) _ (at-set-value .set-value .ensures) (not-false _ (at-if1 .if1 .left)) (at-react .react .ensures .0)
+    (at-react .react .ensures .1) (omega (arith, at-if2 .if2 .left)) (at-instant .instant .ensures)
 
 pub event-line-spec : {M : Type 1} → statement M
 event-line-spec =

@@ -38,7 +38,8 @@ returns-2 c =
     let at-if1 = at-hex-bytes .before .before in
     let start = at-if1 .before .before .before .before .before in
     let bad = not-true _ (at-if2 .if2 .taken) in
-    first-bad (start .pre .1) _ (at-if1 .if1 .left) (search needs) (at-hex-bytes .hex-bytes .ensures .1) bad (at-bad-line2 .bad-line2 .ensures)
+    first-bad (start .pre .1) _ (at-if1 .if1 .left) (search needs) (at-hex-bytes .hex-bytes .ensures .1) bad
+    (at-bad-line2 .bad-line2 .ensures)
 
 array-share-prefix-bytes : tie.Need-array-share-prefix-bytes
 array-share-prefix-bytes c = search needs
@@ -60,13 +61,15 @@ same-length-5 c = search needs
 
 returns-3 : tie.Need-returns-3
 returns-3 c =
-    let at-open-sheet = c .before .before .before .before .before .before in
+    let at-before = c .before .before .before .before .before in
+    let at-open-sheet = at-before .before in
     let at-if2 = at-open-sheet .before .before .before .before .before in
     let at-hex-bytes = at-if2 .before .before .before in
     let at-if1 = at-hex-bytes .before .before in
     let start = at-if1 .before .before .before .before .before in
     let good = not-false _ (at-if2 .if2 .left) in
-    first-opened (start .pre .1) _ (at-if1 .if1 .left) (search needs) (at-hex-bytes .hex-bytes .ensures .1) good (at-open-sheet .open-sheet .ensures)
+    first-opened (start .pre .1) _ (at-if1 .if1 .left) (search needs) (at-hex-bytes .hex-bytes .ensures .1) good
+    (at-open-sheet .open-sheet .ensures)
 
 pub first-line-spec : {M : Type 1} → statement M
 first-line-spec =

@@ -61,7 +61,8 @@ returns c =
     let at-f = at-refusal .before .before in
     let at-compile = at-f .before .before .before .before .before .before .before in
     let was = was-refused (at-compile .compile .ensures) (at-f .f .given .1) in
-    opens-none was (record { awaits = at-awaiting .awaiting .ensures; written = rw (at-refusal .refusal .ensures) at (at-refused-line .refused-line .ensures) })
+    let printed = rw (at-refusal .refusal .ensures) at (at-refused-line .refused-line .ensures) in
+    opens-none was (record { awaits = at-awaiting .awaiting .ensures; written = printed })
 
 same-length-4 : tie.Need-same-length-4
 same-length-4 c = search needs
@@ -78,7 +79,8 @@ returns-2 c =
     let at-ready = at-word-line .before .before .before .before in
     let at-c = at-ready .before .before .before in
     let at-compile = at-c .before .before .before .before .before .before .before in
-    opens-sheet (was-compiled (at-compile .compile .ensures) (at-c .c .given .1)) (at-ready .ready .ensures) (at-word-line .word-line .ensures)
+    opens-sheet (was-compiled (at-compile .compile .ensures) (at-c .c .given .1)) (at-ready .ready .ensures)
+    (at-word-line .word-line .ensures)
 
 pub open-sheet-spec : {M : Type 1} → statement M
 open-sheet-spec =

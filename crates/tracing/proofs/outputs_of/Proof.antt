@@ -30,7 +30,9 @@ loop-holds : tie.Need-loop-holds Inv-loop μ-loop
 loop-holds c = (search needs, search needs, search needs, none-added (c .empty .ensures))
 
 returns : tie.Need-returns Inv-loop μ-loop
-returns c = wide-added (omega (arith, c .before .before .loop .inv .0)) (search needs) (c .before .before .loop .inv .3)
+returns c =
+    let at-loop = c .before .before in
+    wide-added (omega (arith, at-loop .loop .inv .0)) (search needs) (at-loop .loop .inv .3)
 
 add-requires : tie.Need-add-requires Inv-loop μ-loop
 add-requires c κs = search needs
@@ -43,7 +45,8 @@ loop-less c = search needs
 
 loop-again : tie.Need-loop-again Inv-loop μ-loop
 loop-again c =
-    let at-loop = c .before .before .before in
+    let at-before = c .before .before in
+    let at-loop = at-before .before in
     (search needs, search needs, search needs, one-added (at-loop .loop .inv .1) (at-loop .loop .inv .3) (c .add .ensures))
 
 returns-2 : tie.Need-returns-2 Inv-loop μ-loop

@@ -17,7 +17,13 @@ returns : tie.Need-returns
 returns c =
     let at-outputs-of = c .before in
     let at-prepare = at-outputs-of .before in
-    record { awaits = refl; prepares = at-prepare .prepare .ensures; outputs = at-outputs-of .outputs-of .ensures; fresh = c .empty .ensures; none = refl }
+    record {
+      awaits = refl;
+      prepares = at-prepare .prepare .ensures;
+      outputs = at-outputs-of .outputs-of .ensures;
+      fresh = c .empty .ensures;
+      none = refl;
+    }
 
 pub ready-spec : {M : Type 1} → statement M
 ready-spec = tie.close (tie.spec prepare-requires outputs-of-requires empty-requires returns)

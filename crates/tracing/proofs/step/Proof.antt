@@ -15,9 +15,12 @@ enum-told-2 c = search needs
 
 event-line-requires : tie.Need-event-line-requires
 event-line-requires c κs =
-    let at-enum-told2 = c .before .before .before in
+    let at-before = c .before .before in
+    let at-enum-told2 = at-before .before in
     let start = at-enum-told2 .before .before .before .before .before .before in
-    (sound-ready (start .pre .1) (at-enum-told2 .enum-told2 .given .1), at-enum-told2 .enum-told2 .given .1)
+    let awaits = at-enum-told2 .enum-told2 .given .1 in
+    let ready = sound-ready (start .pre .1) awaits in
+    (ready .0, ready .1, awaits)
 
 enum-told-3 : tie.Need-enum-told-3
 enum-told-3 c = search needs

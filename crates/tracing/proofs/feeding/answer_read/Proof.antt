@@ -9,13 +9,23 @@ refill-requires : tie.Need-refill-requires
 refill-requires c κs = search needs
 
 feed-requires : tie.Need-feed-requires
-feed-requires c κs = (c .before .before .before .before .before .before .before .before .before .before .before .before .before .before .pre .0, c .before .before .before .before .before .before .before .before .before .before .before .before .before .before .pre .1)
+feed-requires c κs =
+    let start = c .before .before .before .before .before .before .before .before .before .before .before .before .before .before in
+    (start .pre .0, start .pre .1)
 
 slice-reshare-prefix-write-all : tie.Need-slice-reshare-prefix-write-all
-slice-reshare-prefix-write-all c = let counted = c .before .before .before .before .before .before .before .before .feed .ensures .0 .0 (omega (arith, c .before .before .before .before .before .before .before .before .before .before .before .before .before .before .before .before .before .before .before .before .before .before .before .pre .2)) in search needs
+slice-reshare-prefix-write-all c =
+    let at-feed = c .before .before .before .before .before .before .before .before in
+    let at-refill = at-feed .before .before .before .before .before .before .before in
+    let start = at-refill .before .before .before .before .before .before .before .before in
+    let counted = at-feed .feed .ensures .0 .0 (omega (arith, start .pre .2)) in search needs
 
 slice-aggregate-write-all : tie.Need-slice-aggregate-write-all
-slice-aggregate-write-all c = let counted = c .before .before .before .before .before .before .before .before .before .feed .ensures .0 .0 (omega (arith, c .before .before .before .before .before .before .before .before .before .before .before .before .before .before .before .before .before .before .before .before .before .before .before .before .pre .2)) in search needs
+slice-aggregate-write-all c =
+    let at-feed = c .before .before .before .before .before .before .before .before .before in
+    let at-refill = at-feed .before .before .before .before .before .before .before in
+    let start = at-refill .before .before .before .before .before .before .before .before in
+    let counted = at-feed .feed .ensures .0 .0 (omega (arith, start .pre .2)) in search needs
 
 write-all-requires : tie.Need-write-all-requires
 write-all-requires c κs = search needs
@@ -36,7 +46,10 @@ same-length-5 : tie.Need-same-length-5
 same-length-5 c = search needs
 
 returns : tie.Need-returns
-returns c = (c .before .before .before .before .before .before .before .before .before .before .feed .ensures .0 .1, read-answered (c .before .before .before .before .before .before .before .before .before .before .before .before .before .before .before .before .before .before .refill .ensures) (c .before .before .before .before .before .before .before .before .before .before .feed .ensures .1))
+returns c =
+    let at-feed = c .before .before .before .before .before .before .before .before .before .before in
+    let at-refill = at-feed .before .before .before .before .before .before .before .before in
+    (at-feed .feed .ensures .0 .1, read-answered (at-refill .refill .ensures) (at-feed .feed .ensures .1))
 
 pub answer-read-spec : {M : Type 1} → statement M
 answer-read-spec =

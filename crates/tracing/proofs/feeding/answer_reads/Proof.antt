@@ -27,37 +27,44 @@ loop-holds c = (refl, refl, refl, refl, refl, sound-first (c .before .awaiting .
 
 answer-read-requires : tie.Need-answer-read-requires Inv-loop μ-loop
 answer-read-requires c κs =
-    let start = c .before .before .before .before .before .before .before .before .before .before .before .before .before .before in
-    let inv = c .before .before .before .before .before .before .loop .inv in
+    let at-loop = c .before .before .before .before .before .before in
+    let at-before = at-loop .before .before .before .before .before .before .before in
+    let start = at-before .before in
+    let inv = at-loop .loop .inv in
     (buffers-still (start .pre .0) (inv .1) (inv .2) (inv .3), inv .5, omega (arith, start .pre .1, inv .0, inv .4))
 
 same-length : tie.Need-same-length Inv-loop μ-loop
 same-length c =
-    let at-answer-read = c .before .before .before .before .before .before .before .before .before .before .before .before in
+    let at-before = c .before .before .before .before .before .before .before .before .before .before .before in
+    let at-answer-read = at-before .before in
     let at-loop = at-answer-read .before .before .before .before .before .before .before in
     omega (arith, at-loop .loop .inv, at-answer-read .answer-read .kept)
 
 same-length-2 : tie.Need-same-length-2 Inv-loop μ-loop
 same-length-2 c =
-    let at-answer-read = c .before .before .before .before .before .before .before .before .before .before .before .before in
+    let at-before = c .before .before .before .before .before .before .before .before .before .before .before in
+    let at-answer-read = at-before .before in
     let at-loop = at-answer-read .before .before .before .before .before .before .before in
     omega (arith, at-loop .loop .inv, at-answer-read .answer-read .kept)
 
 same-length-3 : tie.Need-same-length-3 Inv-loop μ-loop
 same-length-3 c =
-    let at-answer-read = c .before .before .before .before .before .before .before .before .before .before .before .before in
+    let at-before = c .before .before .before .before .before .before .before .before .before .before .before in
+    let at-answer-read = at-before .before in
     let at-loop = at-answer-read .before .before .before .before .before .before .before in
     omega (arith, at-loop .loop .inv, at-answer-read .answer-read .kept)
 
 same-length-4 : tie.Need-same-length-4 Inv-loop μ-loop
 same-length-4 c =
-    let at-answer-read = c .before .before .before .before .before .before .before .before .before .before .before .before in
+    let at-before = c .before .before .before .before .before .before .before .before .before .before .before in
+    let at-answer-read = at-before .before in
     let at-loop = at-answer-read .before .before .before .before .before .before .before in
     omega (arith, at-loop .loop .inv, at-answer-read .answer-read .kept)
 
 same-length-5 : tie.Need-same-length-5 Inv-loop μ-loop
 same-length-5 c =
-    let at-answer-read = c .before .before .before .before .before .before .before .before .before .before .before .before in
+    let at-before = c .before .before .before .before .before .before .before .before .before .before .before in
+    let at-answer-read = at-before .before in
     let at-loop = at-answer-read .before .before .before .before .before .before .before in
     omega (arith, at-loop .loop .inv, at-answer-read .answer-read .kept)
 
@@ -72,11 +79,18 @@ loop-less c = search needs
 
 loop-again : tie.Need-loop-again Inv-loop μ-loop
 loop-again c =
-    let at-answer-read = c .before .before .before .before .before .before .before .before .before .before .before .before .before .before in
+    let at-before = c .before .before .before .before .before .before .before .before .before .before .before .before .before in
+    let at-answer-read = at-before .before in
     let at-loop = at-answer-read .before .before .before .before .before .before .before in
     let inv = at-loop .loop .inv in
-    let kept = at-answer-read .answer-read .kept in
-    (omega (arith, inv, kept), omega (arith, inv, kept), omega (arith, inv, kept), omega (arith, inv, kept), omega (arith, inv, kept), at-answer-read .answer-read .ensures .0)
+    let kept = at-answer-read .answer-read .kept in (
+      omega (arith, inv, kept),
+      omega (arith, inv, kept),
+      omega (arith, inv, kept),
+      omega (arith, inv, kept),
+      omega (arith, inv, kept),
+      at-answer-read .answer-read .ensures .0,
+    )
 
 same-length-6 : tie.Need-same-length-6 Inv-loop μ-loop
 same-length-6 c = search needs

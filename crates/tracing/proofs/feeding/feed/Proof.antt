@@ -1,4 +1,5 @@
--- The loop's invariant: the text of the lines answered is there, and the others are those of the bytes still at hand. With each line less is at hand.
+-- The loop's invariant: the text of the lines answered is there, and the others are those of the bytes still at hand. With each line less
+-- is at hand.
 use mathlib.Core.Logic.{inl, inr}
 use native.Mathlib.Omega.{arith}
 use Rattle.texts.proofs.Taking.{remaining, fewer}
@@ -16,7 +17,9 @@ abbrev μ-loop : tie.MeasureT-loop
     remaining source bytes
 
 loop-holds : tie.Need-loop-holds Inv-loop μ-loop
-loop-holds c = no-round _ _ _ _ _ _ _ _ (c .before .before .before .before .before .pre .1)
+loop-holds c =
+    let start = c .before .before .before .before .before in
+    no-round _ _ _ _ _ _ _ _ (start .pre .1)
 
 next-line-requires : tie.Need-next-line-requires Inv-loop μ-loop
 next-line-requires c κs = search needs
@@ -32,19 +35,22 @@ slice-aggregate-turn c = search needs
 
 turn-requires : tie.Need-turn-requires Inv-loop μ-loop
 turn-requires c κs =
-    let at-loop = c .before .before .before .before .before .before .before .before .before .before .before in
+    let at-before = c .before .before .before .before .before .before .before .before .before .before in
+    let at-loop = at-before .before in
     let start = at-loop .before .before .before .before .before .before in
     (columns-still (at-loop .loop .inv) (start .pre .0 .columns), at-loop .loop .inv .sound)
 
 loop-less : tie.Need-loop-less Inv-loop μ-loop
 loop-less c =
-    let at-enum-told = c .before .before .before .before .before .before .before .before .before .before .before .before in
+    let at-before = c .before .before .before .before .before .before .before .before .before .before .before in
+    let at-enum-told = at-before .before in
     let at-next-line = at-enum-told .before .before .before .before .before in
     fewer (at-next-line .next-line .ensures .1) (at-enum-told .enum-told .given .1)
 
 loop-again : tie.Need-loop-again Inv-loop μ-loop
 loop-again c =
-    let at-turn = c .before .before .before .before .before .before .before in
+    let at-before = c .before .before .before .before .before .before in
+    let at-turn = at-before .before in
     let at-enum-told = at-turn .before .before .before .before .before in
     let at-next-line = at-enum-told .before .before .before .before .before in
     let at-loop = at-next-line .before .before in
@@ -52,8 +58,10 @@ loop-again c =
     let start = at-before .before in
     let looked = at-next-line .next-line .ensures .1 in
     let turned = at-turn .turn in
-    round (at-loop .loop .inv) looked (omega (arith, start .good)) (at-enum-told .enum-told .given .1) (start .pre .0 .line-long) (omega (arith, start .good))
-    (omega (arith, at-next-line .next-line .kept)) (omega (arith, turned .kept)) (omega (arith, turned .kept)) (omega (arith, turned .kept)) (turned .ensures)
+    round (at-loop .loop .inv) looked (omega (arith, start .good)) (at-enum-told .enum-told .given .1) (start .pre .0 .line-long)
+    (omega (arith, start .good))
+    (omega (arith, at-next-line .next-line .kept)) (omega (arith, turned .kept)) (omega (arith, turned .kept))
+    (omega (arith, turned .kept)) (turned .ensures)
 
 enum-told-2 : tie.Need-enum-told-2 Inv-loop μ-loop
 enum-told-2 c = search needs
@@ -75,9 +83,12 @@ same-length-4 c = search needs
 
 returns : tie.Need-returns Inv-loop μ-loop
 returns c =
-    let start = c .before .before .before .before .before .before .before .before .before .before .before .before .before .before in
-    let rounds = c .before .before .before .before .before .before .before .before .loop .inv in
-    let looked = c .before .before .before .before .before .before .next-line .ensures .1 in
+    let at-next-line = c .before .before .before .before .before .before in
+    let at-loop = at-next-line .before .before in
+    let at-before = at-loop .before .before .before .before .before in
+    let start = at-before .before in
+    let rounds = at-loop .loop .inv in
+    let looked = at-next-line .next-line .ensures .1 in
     let answer = c .fed .ensures in (
       (
         counted-text rounds looked (omega (arith, start .good)) answer,
@@ -106,9 +117,12 @@ same-length-8 c = search needs
 
 returns-2 : tie.Need-returns-2 Inv-loop μ-loop
 returns-2 c =
-    let start = c .before .before .before .before .before .before .before .before .before .before .before .before .before .before in
-    let rounds = c .before .before .before .before .before .before .before .before .loop .inv in
-    let looked = c .before .before .before .before .before .before .next-line .ensures .1 in
+    let at-next-line = c .before .before .before .before .before .before in
+    let at-loop = at-next-line .before .before in
+    let at-before = at-loop .before .before .before .before .before in
+    let start = at-before .before in
+    let rounds = at-loop .loop .inv in
+    let looked = at-next-line .next-line .ensures .1 in
     let answer = c .fed2 .ensures in (
       (
         counted-text rounds looked (omega (arith, start .good)) answer,

@@ -25,19 +25,24 @@ slice-aggregate-feed-3 c = search needs
 
 feed-requires : tie.Need-feed-requires
 feed-requires c κs =
-    let at-awaiting = c .before .before .before .before .before in
-    (record { line-long = search needs; columns = record { rows-long = search needs; statics-long = search needs } }, sound-first (at-awaiting .awaiting .ensures))
+    let at-before = c .before .before .before .before in
+    let at-awaiting = at-before .before in (
+      record { line-long = search needs; columns = record { rows-long = search needs; statics-long = search needs } },
+      sound-first (at-awaiting .awaiting .ensures),
+    )
 
 same-length : tie.Need-same-length
 same-length c = search needs
 
 returns : tie.Need-returns
 returns c =
-    let at-feed = c .before .before .before .before .before in
+    let at-before = c .before .before .before .before in
+    let at-feed = at-before .before in
     let at-all-read = at-feed .before .before .before .before .before in
     let at-awaiting = at-all-read .before in
     let stands = for-first (at-awaiting .awaiting .ensures) in
-    all-answered (at-all-read .all-read .ensures) stands (at-feed .feed .ensures .1 first [] stands (rw (at-all-read .all-read .ensures) (nothing-kept _)))
+    all-answered (at-all-read .all-read .ensures) stands
+    (at-feed .feed .ensures .1 first [] stands (rw (at-all-read .all-read .ensures) (nothing-kept _)))
 
 pub traced-spec : {M : Type 1} → statement M
 traced-spec =

@@ -34,7 +34,8 @@ returns c =
     let at-same = at-if2 .before in
     let at-if1 = at-same .before .before in
     let start = at-if1 .before .before .before .before .before in
-    let begun : begins (start .args .many) (start .args .line .now) ≡ true = rw (at-if1 .if1 .taken) (sym (at-same .same .ensures) ∙ at-if2 .if2 .taken) in
+    let begun : begins (start .args .many) (start .args .line .now) ≡ true = rw (at-if1 .if1 .taken)
+    (sym (at-same .same .ensures) ∙ at-if2 .if2 .taken) in
     turned-anew begun (at-awaiting .awaiting .ensures) (at-put-bytes .put-bytes .ensures)
 
 step-requires : tie.Need-step-requires
@@ -51,7 +52,8 @@ same-length-4 c = search needs
 
 returns-2 : tie.Need-returns-2
 returns-2 c =
-    let at-step = c .before .before .before .before .before .before in
+    let at-before = c .before .before .before .before .before in
+    let at-step = at-before .before in
     let at-if1 = at-step .before .before .before .before in
     let start = at-if1 .before .before .before .before .before in
     let args = start .args in

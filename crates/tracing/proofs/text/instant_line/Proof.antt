@@ -36,7 +36,8 @@ returns c =
     let at-put-byte = at-put-set .before .before .before .before in
     let at-put-decimal = at-put-byte .before .before .before .before in
     let state = puts-more (search needs) (at-put-set2 .put-set2 .ensures) (at-put-rest .put-rest .ensures) in
-    let outputs = puts-more (search needs) (at-put-set .put-set .ensures) (puts-more (search needs) (at-put-byte2 .put-byte2 .ensures) state) in
+    let outputs = puts-more (search needs) (at-put-set .put-set .ensures)
+    (puts-more (search needs) (at-put-byte2 .put-byte2 .ensures) state) in
     puts-more (search needs) (at-put-decimal .put-decimal .ensures) (puts-more (search needs) (at-put-byte .put-byte .ensures) outputs)
 
 pub instant-line-spec : {M : Type 1} → statement M

@@ -27,7 +27,8 @@ returns c =
     let at-put-byte = at-before .before in
     let at-put-row = at-put-byte .before .before .before .before in
     let at-put-bytes = at-put-row .before .before .before .before .before in
-    puts-more (search needs) (at-put-bytes .put-bytes .ensures) (puts-more (search needs) (at-put-row .put-row .ensures) (at-put-byte .put-byte .ensures))
+    puts-more (search needs) (at-put-bytes .put-bytes .ensures)
+    (puts-more (search needs) (at-put-row .put-row .ensures) (at-put-byte .put-byte .ensures))
 
 pub word-line-spec : {M : Type 1} → statement M
 word-line-spec =
