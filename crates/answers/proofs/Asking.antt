@@ -36,8 +36,9 @@ module _ (text : List ℕ) (end : ℕ) (is : end ≡ wordEnd text) where
         → behindBytes word s text ≡ of x (λ state. of y (aboutReaction word s state))
     unfolding behindBytes
     behind-two h state event =
-        rw (more-words h)
-        (ap₂ (λ (a b : Value). of a (λ state. of b (aboutReaction word s state))) (sym (ap setIn first-is) ∙ state) (sym (ap setIn left-is) ∙ event))
+        let first = sym (ap setIn first-is) ∙ state in
+        let second = sym (ap setIn left-is) ∙ event in
+        rw (more-words h) (ap₂ (λ (a b : Value). of a (λ state. of b (aboutReaction word s state))) first second)
 
     -- the bytes in the first word, and whether there is another
     pub about-bytes : bytesIn (take end text) ≡ bytes s → ofBytes (bytesIn (firstWord text)) (withBytes word text) ≡ withBytes word text s
@@ -57,8 +58,8 @@ module _ (text : List ℕ) (end : ℕ) (is : end ≡ wordEnd text) where
       → aboutOrder text ≡ of x (λ n. ofTables (numbersIn (left text end)) (oneTable (order n)))
   unfolding aboutOrder
   order-then h is-x =
-      rw (more-words h)
-      (ap₂ (λ (a : Value) (l : List ℕ). of a (λ n. ofTables (numbersIn l) (oneTable (order n)))) (sym (ap orderIn first-is) ∙ is-x) (sym left-is))
+      let first = sym (ap orderIn first-is) ∙ is-x in
+      rw (more-words h) (ap₂ (λ (a : Value) (l : List ℕ). of a (λ n. ofTables (numbersIn l) (oneTable (order n)))) first (sym left-is))
 
   -- a question's word, and what follows it
   pub question-is : length text ≤ longest → end < length text → question text ≡ asked (take end text) (left text end)

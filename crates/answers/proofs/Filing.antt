@@ -91,10 +91,14 @@ pub wrote-none : {s : List ℕ} (lent : List ℕ) {f : Fault} {n k : ℕ} {out o
     → Puts (noFileText (refusal f)) 0 k out out′ → Says (write s n) k out out′
 unfolding writeVerdict verdict netVerdict writtenText sheetNet
 wrote-none lent {f} was lends p =
-    said (is-written {buffer = lent} {buffer′ = lent} {r = refusal f} lends (record { outcome = faulty f; checks = was; filed = filed-refused })) p
+    said
+    (is-written {buffer = lent} {buffer′ = lent} {r = refusal f} lends
+    (record { outcome = faulty f; checks = was; filed = filed-refused }))
+    p
 
 -- the netlist of one that is accepted
-module _ {s rows statics cells : List ℕ} {c : Counts} {n : ℕ} (a : Compiled-as s c n rows statics cells) (enough : length cells ≡ maxCells) where
+module _ {s rows statics cells : List ℕ} {c : Counts} {n : ℕ} (a : Compiled-as s c n rows statics cells)
+    (enough : length cells ≡ maxCells) where
   cells-are : cellsOf (take n cells) ≡ sheetNetlist (a .read)
   cells-are = ap (λ (k : ℕ). cellsOf (take k cells)) (a .count) ∙ a .own .means
 
@@ -105,7 +109,8 @@ module _ {s rows statics cells : List ℕ} {c : Counts} {n : ℕ} (a : Compiled-
   counted = ap (acceptance (c .statements)) (sym (prefix-long a enough)) ∙ counts-are a
 
   pub wrote-file : (lent : List ℕ) {out out′ : List ℕ} {m k : ℕ}
-      → FileSaid (netlistOf (c .inputs) (c .outputs) (take n cells)) (acceptance (c .statements) (length (take n cells))) k lent out out′ → Lends m lent
+      → FileSaid (netlistOf (c .inputs) (c .outputs) (take n cells)) (acceptance (c .statements) (length (take n cells))) k lent out out′
+      → Lends m lent
       → Says (write s m) k out out′
   unfolding sheetNet fileOf
   wrote-file lent told lends =

@@ -29,7 +29,8 @@ use Rattle.compile_entries.specs.Compile.{sheetNet}
 use Rattle.texts.specs.Written.{decimal, hex, inHex, behindBlanks, row}
 use Rattle.texts.proofs.Numerals.{decimal-short, hex-short}
 use Rattle.answers.specs.Questions.{Question, room}
-use Rattle.answers.specs.Texts.{line, numbersOf, fileText, noFileText, writtenText, reactionText, answerIn, parts, tableText, orderText}
+use Rattle.answers.specs.Texts.{line, numbersOf, fileText, noFileText, writtenText}
+use Rattle.answers.specs.Texts.{reactionText, answerIn, parts, tableText, orderText}
 use Rattle.answers.specs.Answering.{Lends, Answers, longestAnswer, Told}
 use Rattle.answers.specs.Code.{Says}
 use Rattle.answers.specs.Answering.{no-question, is-rest, is-read, is-checked, is-file, does-fit}
@@ -84,7 +85,8 @@ module _ (a : Answer) (file buffer : List ℕ) (few : length buffer ≤ room) wh
       by-room true is = file-short (omega (arith, leb-true (length file) (length buffer) is))
       by-room false is = no-file-short
 
-      by-own : (v : Verdict) → length (writtenText (verdict v true true (leb (length file) (length buffer)) (length file)) a file) ≤ longestAnswer
+      by-own : (v : Verdict)
+          → length (writtenText (verdict v true true (leb (length file) (length buffer)) (length file)) a file) ≤ longestAnswer
       by-own passes = by-room (leb (length file) (length buffer)) refl
       by-own (stops f) = no-file-short
 
@@ -123,7 +125,8 @@ answer-short (is-ordered {n = n} {table = ns} {r = r} was) =
     order-short r (ap (λ (r : Reordered). length (r .table .pins)) (was .answer) ∙ order-pins n ns)
 
 -- so all of it stands in the buffer
-pub all-told : {q : Question} {n : ℕ} {out out′ : List ℕ} → longestAnswer ≤ length out → length out ≤ 18446744073709551615 → Says q n out out′
+pub all-told : {q : Question} {n : ℕ} {out out′ : List ℕ} → longestAnswer ≤ length out → length out ≤ 18446744073709551615
+    → Says q n out out′
     → Told q n out′
 all-told {n = n} {out = out} {out′ = out′} long small s =
     let few = answer-short (s .answers) in

@@ -93,14 +93,16 @@ pub none-read : (text numbers : List ℕ) → length numbers ≡ longest + 1 →
 none-read text numbers long = record { within = omega arith; few = omega arith; long = long; so-far = joined-none (numbersFrom 0 [] text) }
 
 -- where number i ends
-pub number-end : (text : List ℕ) (i at : ℕ) {sign end : ℕ} → sign ≡ signBehind i → end ≡ partEnd sign (take (length text - at) (drop at text))
+pub number-end : (text : List ℕ) (i at : ℕ) {sign end : ℕ} → sign ≡ signBehind i
+    → end ≡ partEnd sign (take (length text - at) (drop at text))
     → at + end ≡ at + partEnd (signBehind i) (drop at text)
 number-end text i at is ends =
     let all = take-all (length text - at) (drop at text) (omega (arith, length-drop at text)) in
     ap (λ (k : ℕ). at + k) (ends ∙ rw (all, is))
 
 -- number i: up to its sign
-module _ {text numbers : List ℕ} {i at end : ℕ} (r : Reading text numbers i at) (is : end ≡ at + partEnd (signBehind i) (drop at text)) where
+module _ {text numbers : List ℕ} {i at end : ℕ} (r : Reading text numbers i at)
+    (is : end ≡ at + partEnd (signBehind i) (drop at text)) where
   abbrev part : List ℕ
   part = take (end - at) (drop at text)
 
@@ -151,7 +153,8 @@ module _ {text numbers : List ℕ} {i at end : ℕ} (r : Reading text numbers i 
     unfolding joined before
     last-read h = r .so-far ∙ rw (last h, number, stored) (by-truth (isTruth i))
       where
-        by-truth : (b : Bool) → joined (take i numbers) (cond b (before (Is n) (these [])) no-tables) ≡ cond b (these (take i numbers ++ (n ∷ []))) no-tables
+        by-truth : (b : Bool)
+            → joined (take i numbers) (cond b (before (Is n) (these [])) no-tables) ≡ cond b (these (take i numbers ++ (n ∷ []))) no-tables
         by-truth true = refl
         by-truth false = refl
 

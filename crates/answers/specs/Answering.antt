@@ -35,8 +35,10 @@ pub data Answers : Question → List ℕ → Type 0 where
   is-file : {s : List ℕ} {r : Answer} → NetChecked (readFile s) r → Answers (file s) (answerText r)
   does-fit : {s : List ℕ} {state : ℕ} {r : Answer} → Fitting s state r → Answers (fits s state) (answerText r)
   is-written : {s buffer buffer′ : List ℕ} {n : ℕ} {r : Answer} → Lends n buffer → (w : Written s r buffer buffer′)
-      → Answers (write s n) (writtenText (writeVerdict (sheetNet (w .outcome)) (fileOf (sheetNet (w .outcome))) buffer) r (fileOf (sheetNet (w .outcome))))
-  reacts : {s : List ℕ} {state event : ℕ} {r : Reaction} → Once (ReactedMany s) state event r → Answers (react s state event) (reactionText r)
+      → Answers (write s n)
+      (writtenText (writeVerdict (sheetNet (w .outcome)) (fileOf (sheetNet (w .outcome))) buffer) r (fileOf (sheetNet (w .outcome))))
+  reacts : {s : List ℕ} {state event : ℕ} {r : Reaction} → Once (ReactedMany s) state event r
+      → Answers (react s state event) (reactionText r)
   file-reacts : {s : List ℕ} {state event : ℕ} {r : Reaction} → Once (NetReactedMany (readFile s)) state event r
       → Answers (reactfile s state event) (reactionText r)
   is-covered : {s tables : List ℕ} {r : Answer} → CoverChecked (readFile s) tables r → Answers (cover s tables) (answerText r)

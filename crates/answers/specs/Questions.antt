@@ -45,7 +45,8 @@ setIn word = valueOf 16 setDigits word
 abbrev pub lengthIn : List ℕ → Value
 lengthIn word = valueOf 10 20 word
 
--- "N is 1 to 20 decimal digits, at most 2^64 - 1". A larger number is read as the largest (Digits), which has 20 digits and so one spelling.
+-- "N is 1 to 20 decimal digits, at most 2^64 - 1". A larger number is read as the largest (Digits), which has 20 digits and so one
+-- spelling.
 abbrev pub largest : List ℕ
 largest =
     49 ∷ (56 ∷ (52 ∷ (52 ∷ (54 ∷ (55 ∷ (52 ∷ (52 ∷ (48 ∷ (55 ∷
@@ -148,7 +149,8 @@ aboutReaction word s state event =
 unfoldable pub behindBytes : List ℕ → List ℕ → List ℕ → Question
 unfolding of aboutMore aboutReaction
 behindBytes word s text =
-    cond (oneWord text) (aboutMore word s text) (of (setIn (firstWord text)) (λ state. of (setIn (afterWord text)) (aboutReaction word s state)))
+    cond (oneWord text) (aboutMore word s text)
+    (of (setIn (firstWord text)) (λ state. of (setIn (afterWord text)) (aboutReaction word s state)))
 
 -- what is asked about bytes
 unfoldable pub withBytes : List ℕ → List ℕ → List ℕ → Question

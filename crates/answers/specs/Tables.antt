@@ -1,4 +1,5 @@
--- Tables in a question. "A TABLE is cell:pin0:pin1:pin2:pin3:truth", and tables have "one comma between two". So tables in a row are a row of numbers, as a cover is.
+-- Tables in a question. "A TABLE is cell:pin0:pin1:pin2:pin3:truth", and tables have "one comma between two". So tables in a row are a
+-- row of numbers, as a cover is.
 use Prim.Native.Nat.{ℕ, suc, _+_, _%_}
 use mathlib.Core.Bool.{Bool, true, false, cond}
 use mathlib.Core.List.{List, [], _∷_, _++_}

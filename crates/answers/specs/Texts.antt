@@ -1,4 +1,5 @@
--- What is printed for each question, byte by byte: "hex small and without leading zeros, other numbers decimal", one blank between two words.
+-- What is printed for each question, byte by byte: "hex small and without leading zeros, other numbers decimal", one blank between two
+-- words.
 use Prim.Native.Nat.{ℕ}
 use mathlib.Core.Bool.{Bool, true, false}
 use mathlib.Core.List.{List, [], _∷_, _++_, map}
@@ -55,7 +56,8 @@ answerIn r = record { number = r .number; place = r .place; statements = r .stat
 
 unfoldable pub reactionText : Reaction → List ℕ
 reactionText r =
-    row (numbersOf (answerIn r)) ++ ((blank ∷ []) ++ (hex (whole (r .signals)) ++ ((blank ∷ []) ++ (hex (whole (r .state)) ++ (newline ∷ [])))))
+    row (numbersOf (answerIn r)) ++
+    ((blank ∷ []) ++ (hex (whole (r .signals)) ++ ((blank ∷ []) ++ (hex (whole (r .state)) ++ (newline ∷ [])))))
 
 -- numbers with a colon behind each
 unfoldable pub parts : List ℕ → List ℕ

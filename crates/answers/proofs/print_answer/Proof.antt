@@ -15,7 +15,9 @@ array-share-prefix-out : tie.Need-array-share-prefix-out
 array-share-prefix-out c = let few = c .before .answer-line .ensures .within in search needs
 
 slice-aggregate-write-all : tie.Need-slice-aggregate-write-all
-slice-aggregate-write-all c = sym (length-take-le _ _ (c .before .before .answer-line .ensures .within))
+slice-aggregate-write-all c =
+    let at-answer-line = c .before .before in
+    sym (length-take-le _ _ (at-answer-line .answer-line .ensures .within))
 
 write-all-requires : tie.Need-write-all-requires
 write-all-requires c κs = search needs

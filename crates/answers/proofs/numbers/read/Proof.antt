@@ -22,13 +22,15 @@ not-tables-requires c κs = search needs
 
 returns : tie.Need-returns Inv-loop μ-loop
 returns c =
-    let at-before = c .before .before .before in
+    let at-before = c .before .before in
+    let at-before = at-before .before in
     let start = at-before .before in
     rw (c .not-tables .ensures) (too-long (start .args .text .now) _ (omega (arith, start .pre)))
 
 loop-holds : tie.Need-loop-holds Inv-loop μ-loop
 loop-holds c =
-    let start = c .before .before .before in
+    let at-before = c .before .before in
+    let start = at-before .before in
     none-read _ _ (start .pre)
 
 sub-part-end : tie.Need-sub-part-end Inv-loop μ-loop
@@ -75,7 +77,8 @@ same-length c = search needs
 
 returns-2 : tie.Need-returns-2 Inv-loop μ-loop
 returns-2 c =
-    let at-number-in = c .before .before .before in
+    let at-before = c .before .before in
+    let at-number-in = at-before .before in
     let at-part-end = at-number-in .before .before in
     let at-sign-behind = at-part-end .before in
     let at-loop = at-sign-behind .before .before in
@@ -89,7 +92,8 @@ returns-2 c =
 
 cast-numbers : tie.Need-cast-numbers Inv-loop μ-loop
 cast-numbers c =
-    let at-number-in = c .before .before .before in
+    let at-before = c .before .before in
+    let at-number-in = at-before .before in
     let at-loop = at-number-in .before .before .before .before .before in
     let r = at-loop .loop .inv in
     record { fits = omega (arith, number-small _ _ (sym (at-number-in .number-in .ensures) ∙ c .before .n .given .1)) }
@@ -108,14 +112,16 @@ add-t24 c = search needs
 
 same-length-2 : tie.Need-same-length-2 Inv-loop μ-loop
 same-length-2 c =
-    let at-n = c .before .before .before in
+    let at-before = c .before .before in
+    let at-n = at-before .before in
     let at-loop = at-n .before .before .before .before .before .before .before in
     let start = at-loop .before .before .before .before in
     omega (arith, length-set (at-loop .loop .numbers) (at-loop .loop .i) (at-n .n .given .0 .0), at-loop .loop .inv .long, start .pre)
 
 returns-3 : tie.Need-returns-3 Inv-loop μ-loop
 returns-3 c =
-    let at-n = c .before .before .before in
+    let at-before = c .before .before in
+    let at-n = at-before .before in
     let at-number-in = at-n .before .before in
     let at-part-end = at-number-in .before .before in
     let at-sign-behind = at-part-end .before in
@@ -127,7 +133,8 @@ returns-3 c =
     let ends = number-end text (at .i) (at .at) (at-sign-behind .sign-behind .ensures) (at-part-end .part-end .ensures .1) in
     let room : at .i < length (at .numbers) = omega (arith, at .inv .few, at .inv .within, at .inv .long, start .pre) in
     let all = last-read (at .inv) ends (sym (at-number-in .number-in .ensures) ∙ at-n .n .given .1) room (c .before .if2 .taken) in
-    let few : at .i + 1 ≤ length (set (at .numbers) (at .i) (at-n .n .given .0 .0)) = omega (arith, length-set (at .numbers) (at .i) (at-n .n .given .0 .0)) in
+    let few : at .i + 1 ≤ length (set (at .numbers) (at .i) (at-n .n .given .0 .0)) = omega
+    (arith, length-set (at .numbers) (at .i) (at-n .n .given .0 .0)) in
     were-tables text _ (omega (arith, start .pre)) few (rw (c .is-truth .ensures) all)
 
 add-at : tie.Need-add-at Inv-loop μ-loop

@@ -24,7 +24,8 @@ returns c =
     let at-word-end = at-if1 .before in
     let start = at-word-end .before .before .before in
     let text = start .args .text .now in
-    rw (one-word text (at-word-end .word-end .result) (at-word-end .word-end .ensures .1) (at-if1 .if1 .taken)) (said-bad (at-bad-line .bad-line .ensures))
+    rw (one-word text (at-word-end .word-end .result) (at-word-end .word-end .ensures .1) (at-if1 .if1 .taken))
+    (said-bad (at-bad-line .bad-line .ensures))
 
 slice-aggregate-order-value : tie.Need-slice-aggregate-order-value
 slice-aggregate-order-value c = search needs
@@ -54,7 +55,8 @@ returns-2 c =
     let at-word-end = at-if1 .before in
     let start = at-word-end .before .before .before in
     let text = start .args .text .now in
-    let then = order-then text (at-word-end .word-end .result) (at-word-end .word-end .ensures .1) (at-if1 .if1 .left) (sym (at-order-value .order-value .ensures) ∙ at-enum-told .enum-told .given .1) in
+    let then = order-then text (at-word-end .word-end .result) (at-word-end .word-end .ensures .1) (at-if1 .if1 .left)
+    (sym (at-order-value .order-value .ensures) ∙ at-enum-told .enum-told .given .1) in
     rw then (said-bad (at-bad-line2 .bad-line2 .ensures))
 
 add-answer-table : tie.Need-add-answer-table
@@ -85,7 +87,8 @@ returns-3 c =
     let at-word-end = at-if1 .before in
     let start = at-word-end .before .before .before in
     let text = start .args .text .now in
-    let then = order-then text (at-word-end .word-end .result) (at-word-end .word-end .ensures .1) (at-if1 .if1 .left) (sym (at-order-value .order-value .ensures) ∙ at-order .order .given .1) in
+    let then = order-then text (at-word-end .word-end .result) (at-word-end .word-end .ensures .1) (at-if1 .if1 .left)
+    (sym (at-order-value .order-value .ensures) ∙ at-order .order .given .1) in
     rw then (at-answer-table .answer-table .ensures)
 
 pub answer-spec : {M : Type 1} → statement M

@@ -51,12 +51,14 @@ array-share-prefix-row c = search needs
 
 slice-aggregate-table-at : tie.Need-slice-aggregate-table-at
 slice-aggregate-table-at c =
-    let at-read = c .before .before .before .before .before .before in
+    let at-before = c .before .before .before .before .before in
+    let at-read = at-before .before in
     sym (length-take-le _ _ (at-read .read .ensures .few))
 
 table-at-requires : tie.Need-table-at-requires
 table-at-requires c κs =
-    let at-read = c .before .before .before .before .before .before in
+    let at-before = c .before .before .before .before .before in
+    let at-read = at-before .before in
     has-table (at-read .read .ensures) (c .before .if2 .left)
 
 reorder-requires : tie.Need-reorder-requires

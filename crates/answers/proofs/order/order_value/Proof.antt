@@ -38,7 +38,8 @@ same-requires c κs = search needs
 returns-3 : tie.Need-returns-3
 unfolding orSpelled
 returns-3 c =
-    let at-if1 = c .before .before .before in
+    let at-before = c .before .before in
+    let at-if1 = at-before .before in
     let at-n = at-if1 .before .before in
     let at-decimal-value = at-n .before .before in
     let value = sym (at-decimal-value .decimal-value .ensures) ∙ at-n .n .given .1 in
@@ -47,7 +48,8 @@ returns-3 c =
 returns-4 : tie.Need-returns-4
 unfolding orSpelled
 returns-4 c =
-    let at-if1 = c .before .before .before in
+    let at-before = c .before .before in
+    let at-if1 = at-before .before in
     let at-n = at-if1 .before .before in
     let at-decimal-value = at-n .before .before in
     let value = sym (at-decimal-value .decimal-value .ensures) ∙ at-n .n .given .1 in

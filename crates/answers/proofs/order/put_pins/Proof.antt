@@ -48,7 +48,8 @@ loop-again c =
     let pins = start .args .t3 in
     let long = length-map pins ofCell in
     let this = List·getD-map ofCell pins (at-loop .loop .p) (cellNo 0) in
-    pieces-next parts parts-join (map ofCell pins) _ _ (search needs) (at-loop .loop .inv) (omega arith) (rw (this, ← at-number .number .ensures) (at-put-part .put-part .ensures))
+    pieces-next parts parts-join (map ofCell pins) _ _ (search needs) (at-loop .loop .inv) (omega arith)
+    (rw (this, ← at-number .number .ensures) (at-put-part .put-part .ensures))
 
 same-length : tie.Need-same-length Inv-loop μ-loop
 same-length c = omega (arith, c .before .loop .inv .long)

@@ -30,7 +30,8 @@ returns c =
     let at-put-pins = at-put-hex .before .before .before .before .before in
     let at-put-part = at-put-pins .before .before .before .before .before in
     let at-number = at-put-part .before in
-    rw (at-number .number .ensures) at (puts-more (search needs) (at-put-part .put-part .ensures) (puts-more (search needs) (at-put-pins .put-pins .ensures) (at-put-hex .put-hex .ensures)))
+    let pins = puts-more (search needs) (at-put-pins .put-pins .ensures) (at-put-hex .put-hex .ensures) in
+    rw (at-number .number .ensures) at (puts-more (search needs) (at-put-part .put-part .ensures) pins)
 
 pub put-table-spec : {M : Type 1} → statement M
 put-table-spec =

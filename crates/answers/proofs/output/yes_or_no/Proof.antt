@@ -13,7 +13,10 @@ same-length : tie.Need-same-length
 same-length c = search needs
 
 returns : tie.Need-returns
-returns c = rw (c .before .before .before .before .before .if1 .taken) (c .before .before .numbers .ensures)
+returns c =
+    let at-numbers = c .before .before in
+    let at-if1 = at-numbers .before .before .before in
+    rw (at-if1 .if1 .taken) (at-numbers .numbers .ensures)
 
 slice-aggregate-numbers-2 : tie.Need-slice-aggregate-numbers-2
 slice-aggregate-numbers-2 c = search needs
@@ -25,7 +28,10 @@ same-length-2 : tie.Need-same-length-2
 same-length-2 c = search needs
 
 returns-2 : tie.Need-returns-2
-returns-2 c = rw (c .before .before .before .before .before .if1 .left) (c .before .before .numbers2 .ensures)
+returns-2 c =
+    let at-numbers2 = c .before .before in
+    let at-if1 = at-numbers2 .before .before .before in
+    rw (at-if1 .if1 .left) (at-numbers2 .numbers2 .ensures)
 
 pub yes-or-no-spec : {M : Type 1} → statement M
 yes-or-no-spec =

@@ -35,7 +35,8 @@ returns c =
     let at-if1 = at-bad-line .before .before in
     let at-hex-bytes = at-if1 .before .before .before in
     let at-word-end = at-hex-bytes .before .before .before in
-    rw (← at-word-end .word-end .ensures .1, at-hex-bytes .hex-bytes .ensures .1 .bad (not-true _ (at-if1 .if1 .taken))) (said-bad (at-bad-line .bad-line .ensures))
+    rw (← at-word-end .word-end .ensures .1, at-hex-bytes .hex-bytes .ensures .1 .bad (not-true _ (at-if1 .if1 .taken)))
+    (said-bad (at-bad-line .bad-line .ensures))
 
 array-share-prefix-bytes : tie.Need-array-share-prefix-bytes
 array-share-prefix-bytes c = search needs
@@ -58,8 +59,11 @@ returns-2 c =
     let at-word-end = at-hex-bytes .before .before .before in
     let start = at-word-end .before .before .before .before in
     let args = start .args in
-    let these = about-bytes (args .text .now) (at-word-end .word-end .result) (at-word-end .word-end .ensures .1) (args .word .now) _ (at-hex-bytes .hex-bytes .ensures .1 .good (not-false _ (at-if1 .if1 .left))) in
-    rw (these, with-one (args .text .now) (at-word-end .word-end .result) (at-word-end .word-end .ensures .1) (args .word .now) _ (at-if2 .if2 .taken)) (at-answer-bytes .answer-bytes .ensures)
+    let ends = at-word-end .word-end .ensures .1 in
+    let these = about-bytes (args .text .now) (at-word-end .word-end .result) ends (args .word .now) _
+    (at-hex-bytes .hex-bytes .ensures .1 .good (not-false _ (at-if1 .if1 .left))) in
+    rw (these, with-one (args .text .now) (at-word-end .word-end .result) ends (args .word .now) _ (at-if2 .if2 .taken))
+    (at-answer-bytes .answer-bytes .ensures)
 
 array-share-prefix-bytes-2 : tie.Need-array-share-prefix-bytes-2
 array-share-prefix-bytes-2 c = search needs
@@ -94,8 +98,11 @@ returns-3 c =
     let at-word-end = at-hex-bytes .before .before .before in
     let start = at-word-end .before .before .before .before in
     let args = start .args in
-    let these = about-bytes (args .text .now) (at-word-end .word-end .result) (at-word-end .word-end .ensures .1) (args .word .now) _ (at-hex-bytes .hex-bytes .ensures .1 .good (not-false _ (at-if1 .if1 .left))) in
-    rw (these, with-more (args .text .now) (at-word-end .word-end .result) (at-word-end .word-end .ensures .1) (args .word .now) _ (at-if2 .if2 .left)) (at-answer-behind .answer-behind .ensures)
+    let ends = at-word-end .word-end .ensures .1 in
+    let these = about-bytes (args .text .now) (at-word-end .word-end .result) ends (args .word .now) _
+    (at-hex-bytes .hex-bytes .ensures .1 .good (not-false _ (at-if1 .if1 .left))) in
+    rw (these, with-more (args .text .now) (at-word-end .word-end .result) ends (args .word .now) _ (at-if2 .if2 .left))
+    (at-answer-behind .answer-behind .ensures)
 
 pub answer-about-spec : {M : Type 1} → statement M
 answer-about-spec =

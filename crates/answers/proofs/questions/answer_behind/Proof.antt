@@ -89,8 +89,10 @@ returns-3 c =
     let at-word-end = at-if1 .before in
     let start = at-word-end .before .before .before .before .before in
     let args = start .args in
-    let two = behind-two (args .text .now) (at-word-end .word-end .result) (at-word-end .word-end .ensures .1) (args .word .now) (args .bytes .now) (at-if1 .if1 .left)
-    (was-set (at-set-value .set-value .ensures) (not-false _ (at-if2 .if2 .left))) (was-no-set (at-set-value2 .set-value2 .ensures) (not-true _ (at-if3 .if3 .taken))) in
+    let two = behind-two (args .text .now) (at-word-end .word-end .result) (at-word-end .word-end .ensures .1) (args .word .now)
+    (args .bytes .now) (at-if1 .if1 .left)
+    (was-set (at-set-value .set-value .ensures) (not-false _ (at-if2 .if2 .left)))
+    (was-no-set (at-set-value2 .set-value2 .ensures) (not-true _ (at-if3 .if3 .taken))) in
     rw two (said-bad (at-bad-line2 .bad-line2 .ensures))
 
 answer-reaction-requires : tie.Need-answer-reaction-requires
@@ -111,8 +113,10 @@ returns-4 c =
     let at-word-end = at-if1 .before in
     let start = at-word-end .before .before .before .before .before in
     let args = start .args in
-    let two = behind-two (args .text .now) (at-word-end .word-end .result) (at-word-end .word-end .ensures .1) (args .word .now) (args .bytes .now) (at-if1 .if1 .left)
-    (was-set (at-set-value .set-value .ensures) (not-false _ (at-if2 .if2 .left))) (was-set (at-set-value2 .set-value2 .ensures) (not-false _ (at-if3 .if3 .left))) in
+    let two = behind-two (args .text .now) (at-word-end .word-end .result) (at-word-end .word-end .ensures .1) (args .word .now)
+    (args .bytes .now) (at-if1 .if1 .left)
+    (was-set (at-set-value .set-value .ensures) (not-false _ (at-if2 .if2 .left)))
+    (was-set (at-set-value2 .set-value2 .ensures) (not-false _ (at-if3 .if3 .left))) in
     rw two (at-answer-reaction .answer-reaction .ensures)
 
 pub answer-behind-spec : {M : Type 1} → statement M

@@ -37,7 +37,8 @@ returns c =
     let at-cover-file = at-answer .before .before in
     let at-if1 = at-cover-file .before .before in
     let at-same = at-if1 .before in
-    rw (sym (at-same .same .ensures) ∙ at-if1 .if1 .taken) (said (is-covered (at-cover-file .cover-file .ensures)) (at-answer .answer .ensures))
+    rw (sym (at-same .same .ensures) ∙ at-if1 .if1 .taken)
+    (said (is-covered (at-cover-file .cover-file .ensures)) (at-answer .answer .ensures))
 
 slice-aggregate-read : tie.Need-slice-aggregate-read
 slice-aggregate-read c = search needs
@@ -67,7 +68,8 @@ array-share-prefix-row-2 c = search needs
 
 slice-aggregate-cover-file-2 : tie.Need-slice-aggregate-cover-file-2
 slice-aggregate-cover-file-2 c =
-    let at-read = c .before .before .before .before in
+    let at-before = c .before .before .before in
+    let at-read = at-before .before in
     sym (length-take-le _ _ (at-read .read .ensures .few))
 
 cover-file-requires-2 : tie.Need-cover-file-requires-2

@@ -41,7 +41,8 @@ returns-2 c =
     let at-fits2 = at-answer .before .before in
     let at-if1 = at-fits2 .before in
     let at-set-value = at-if1 .before .before in
-    rw (was-set (at-set-value .set-value .ensures) (not-false _ (at-if1 .if1 .left))) (said (does-fit (at-fits2 .fits2 .ensures)) (at-answer .answer .ensures))
+    rw (was-set (at-set-value .set-value .ensures) (not-false _ (at-if1 .if1 .left)))
+    (said (does-fit (at-fits2 .fits2 .ensures)) (at-answer .answer .ensures))
 
 pub answer-fits-spec : {M : Type 1} → statement M
 answer-fits-spec =

@@ -20,8 +20,11 @@ same-length c = search needs
 returns : tie.Need-returns
 unfolding asked
 returns c =
-    let one = sym (c .before .before .before .before .before .same .ensures) ∙ c .before .before .before .before .if1 .taken in
-    rw one (c .before .before .answer-rest .ensures)
+    let at-answer-rest = c .before .before in
+    let at-if1 = at-answer-rest .before .before in
+    let at-same = at-if1 .before in
+    let one = sym (at-same .same .ensures) ∙ at-if1 .if1 .taken in
+    rw one (at-answer-rest .answer-rest .ensures)
 
 slice-aggregate-same-2 : tie.Need-slice-aggregate-same-2
 slice-aggregate-same-2 c = search needs

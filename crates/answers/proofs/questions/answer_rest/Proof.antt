@@ -41,7 +41,8 @@ returns-2 c =
     let at-rest = at-yes-or-no .before .before in
     let at-if1 = at-rest .before in
     let at-set-value = at-if1 .before .before in
-    rw (was-set (at-set-value .set-value .ensures) (not-false _ (at-if1 .if1 .left))) (said is-rest (rw (at-rest .rest .ensures) at (at-yes-or-no .yes-or-no .ensures)))
+    rw (was-set (at-set-value .set-value .ensures) (not-false _ (at-if1 .if1 .left)))
+    (said is-rest (rw (at-rest .rest .ensures) at (at-yes-or-no .yes-or-no .ensures)))
 
 pub answer-rest-spec : {M : Type 1} → statement M
 answer-rest-spec =

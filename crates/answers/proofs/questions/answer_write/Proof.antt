@@ -50,11 +50,13 @@ same-length-2 c = search needs
 returns-2 : tie.Need-returns-2
 unfolding of
 returns-2 c =
-    let at-write-file = c .before .before .before in
+    let at-before = c .before .before in
+    let at-write-file = at-before .before in
     let at-lent = at-write-file .before .before .before in
     let at-n = at-lent .before .before in
     let at-decimal-value = at-n .before .before in
-    rw (sym (at-decimal-value .decimal-value .ensures) ∙ at-n .n .given .1) (at-write-file .write-file .ensures _ (lent-part _ _ (search needs) (at-lent .lent .ensures)))
+    rw (sym (at-decimal-value .decimal-value .ensures) ∙ at-n .n .given .1)
+    (at-write-file .write-file .ensures _ (lent-part _ _ (search needs) (at-lent .lent .ensures)))
 
 pub answer-write-spec : {M : Type 1} → statement M
 answer-write-spec =

@@ -43,7 +43,8 @@ slice-reshare-prefix-with-file c =
 
 slice-aggregate-with-file : tie.Need-slice-aggregate-with-file
 slice-aggregate-with-file c =
-    let at-n = c .before .before .before in
+    let at-before = c .before .before in
+    let at-n = at-before .before in
     let at-write-file = at-n .before .before .before .before in
     sym (length-take-le _ _ (file-within (rw (at-n .n .given .1) at (at-write-file .write-file .ensures))))
 

@@ -17,7 +17,10 @@ same-length c = search needs
 
 returns : tie.Need-returns
 unfolding question
-returns c = rw (lt-leb _ _ (c .before .before .before .before .if1 .taken)) (said-bad (c .before .before .bad-line .ensures))
+returns c =
+    let at-bad-line = c .before .before in
+    let at-if1 = at-bad-line .before .before in
+    rw (lt-leb _ _ (at-if1 .if1 .taken)) (said-bad (at-bad-line .bad-line .ensures))
 
 word-end-requires : tie.Need-word-end-requires
 word-end-requires c κs = search needs
@@ -67,7 +70,9 @@ returns-3 c =
     let at-word-end = at-if2 .before in
     let at-if1 = at-word-end .before in
     let start = at-if1 .before .before .before in
-    rw (question-is (start .args .line .now) (at-word-end .word-end .result) (at-word-end .word-end .ensures .1) (at-if1 .if1 .left) (at-if2 .if2 .left)) (at-answer-question .answer-question .ensures)
+    let ends = at-word-end .word-end .ensures .1 in
+    let asks = question-is (start .args .line .now) (at-word-end .word-end .result) ends (at-if1 .if1 .left) (at-if2 .if2 .left) in
+    rw asks (at-answer-question .answer-question .ensures)
 
 pub say-spec : {M : Type 1} → statement M
 say-spec =

@@ -36,17 +36,21 @@ cast-cells c = search needs
 
 array-share-prefix-cells : tie.Need-array-share-prefix-cells
 array-share-prefix-cells c =
-    let a = was-compiled (c .before .before .before .before .before .before .compile .ensures) (c .before .c .given .1) in
-    omega (arith, n-few a, c .before .before .before .before .before .before .compile .kept)
+    let at-compile = c .before .before .before .before .before .before in
+    let a = was-compiled (at-compile .compile .ensures) (c .before .c .given .1) in
+    omega (arith, n-few a, at-compile .compile .kept)
 
 slice-aggregate-print-file : tie.Need-slice-aggregate-print-file
 slice-aggregate-print-file c =
-    let a = was-compiled (c .before .before .before .before .before .before .before .compile .ensures) (c .before .before .c .given .1) in
+    let at-c = c .before .before in
+    let at-compile = at-c .before .before .before .before .before in
+    let a = was-compiled (at-compile .compile .ensures) (at-c .c .given .1) in
     prefix-long a (search needs)
 
 print-file-requires : tie.Need-print-file-requires
 print-file-requires c κs =
-    let at-c = c .before .before .before .before in
+    let at-before = c .before .before .before in
+    let at-c = at-before .before in
     let at-compile = at-c .before .before .before .before .before in
     let a = was-compiled (at-compile .compile .ensures) (at-c .c .given .1) in
     let long = prefix-long a (search needs) in
@@ -73,7 +77,8 @@ same-length-3 c = search needs
 
 returns-2 : tie.Need-returns-2
 returns-2 c =
-    let at-print-file = c .before .before .before .before in
+    let at-before = c .before .before .before in
+    let at-print-file = at-before .before in
     let at-c = at-print-file .before .before .before .before .before in
     let at-compile = at-c .before .before .before .before .before in
     let start = at-compile .before .before .before .before .before .before .before in

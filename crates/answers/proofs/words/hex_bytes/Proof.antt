@@ -31,7 +31,8 @@ returns-2 c =
     let at-same = at-if1 .before in
     let start = at-same .before .before .before .before in
     let is = sym (at-same .same .ensures) ∙ at-if1 .if1 .left in
-    (counts 0 (start .args .out .now) (omega arith), record { good = λ e. true-false (sym e); bad = λ _. rw (is, eq-eqb _ 0 (c .if2 .taken)) })
+    let none = eq-eqb _ 0 (c .if2 .taken) in
+    (counts 0 (start .args .out .now) (omega arith), record { good = λ e. true-false (sym e); bad = λ _. rw (is, none) })
 
 hex-bytes-requires : tie.Need-hex-bytes-requires
 hex-bytes-requires c κs = search needs
@@ -51,7 +52,10 @@ returns-3 c =
     let some = ne-eqb _ 0 (at-if2 .if2 .left) in
     let read = at-hex-bytes .hex-bytes .ensures .1 in (
       at-hex-bytes .hex-bytes .ensures .0,
-      record { good = λ e. rw (is, some) (rw (start .pre) at (were-bytes read e)); bad = λ e. rw (is, some) (rw (start .pre) at (were-none read e)) },
+      record {
+        good = λ e. rw (is, some) (rw (start .pre) at (were-bytes read e));
+        bad = λ e. rw (is, some) (rw (start .pre) at (were-none read e));
+      },
     )
 
 pub hex-bytes-spec : {M : Type 1} → statement M

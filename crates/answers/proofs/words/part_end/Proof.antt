@@ -24,7 +24,8 @@ shared-slice-read-if1 c = search needs
 
 returns : tie.Need-returns Inv-loop μ-loop
 returns c =
-    let at-loop = c .before .before .before in
+    let at-before = c .before .before in
+    let at-loop = at-before .before in
     let args = at-loop .before .args in
     let at = at-loop .loop in
     let here = end-sign (args .sign) (args .text .now) (at .i) (omega arith) (c .if1 .taken) in
@@ -38,7 +39,8 @@ loop-less c = search needs
 
 loop-again : tie.Need-loop-again Inv-loop μ-loop
 loop-again c =
-    let at-loop = c .before .before .before in
+    let at-before = c .before .before in
+    let at-loop = at-before .before in
     let args = at-loop .before .args in
     let at = at-loop .loop in
     let later = end-later (args .sign) (args .text .now) (at .i) (omega arith) (c .if1 .left) in
@@ -46,7 +48,8 @@ loop-again c =
 
 returns-2 : tie.Need-returns-2 Inv-loop μ-loop
 returns-2 c =
-    let args = c .before .before .args in
+    let start = c .before .before in
+    let args = start .args in
     let at = c .before .loop in
     let past = end-text (args .sign) (args .text .now) (at .i) (omega arith) in
     (counts _ _ (omega arith), omega (arith, past))
