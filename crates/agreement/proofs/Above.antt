@@ -112,7 +112,9 @@ module _ (cells : List Cell) (J : Signals) (S : State) (v : CellNo → Bool) (ze
       let y_is : v y.net ≡ (v x || v m.net) =
       gate_value cells J S v zero_low Or n₃ x m.net (solved_right cells J S v b.cells y.cells n₂ s₂) in
       record {
-        codes = λ j. elim j [ zero ↦ rw m_is at b_is | suc i ↦ rest.codes i ];
+        codes = λ j. elim j as
+            (λ k. nets (highest n keep (c ∷ cs)).nets k ≡ (keep k && (either (c ∷ cs) k && not (nets (highest n keep (c ∷ cs)).above (suc k)))))
+            [ zero ↦ rw m_is at b_is | suc i ↦ rest.codes i ];
         from = next_from (either (c ∷ cs)) (nets r.above) (nets (y.net ∷ r.above)) rest.from (rw m_is at y_is) (λ j. refl);
       }
 
@@ -142,7 +144,9 @@ module _ (cells : List Cell) (J : Signals) (S : State) (v : CellNo → Bool) (ze
       if_value cells J S v zero_low (keep 0) (butnot_at n₂ m.net x) n₂ _ (gate_value cells J S v zero_low Butnot n₂ m.net x)
       (solved_right cells J S v m.cells b.cells n₁ s₁) in
       record {
-        codes = λ j. elim j [ zero ↦ rw m_is at b_is | suc i ↦ rest.codes i ];
+        codes = λ j. elim j as
+            (λ k. nets (parallel_row n keep (c ∷ cs)).nets k ≡ (keep k && (either (c ∷ cs) k && not (nets (parallel_row n keep (c ∷ cs)).above k))))
+            [ zero ↦ rw m_is at b_is | suc i ↦ rest.codes i ];
         above = from_above (either (c ∷ cs)) (nets r.above) rest.from;
       }
 

@@ -1,19 +1,19 @@
 -- No answer is longer than the buffer that is lent for it.
-use Prim.Native.Nat.{ℕ, ◌+◌, ◌*◌, ◌≤◌}
-use mathlib.Core.Path.{◌≡◌, refl, sym, ap, ◌∙◌}
+use Prim.Native.Nat.{ℕ, ◌*◌, ◌≤◌}
+use mathlib.Core.Path.{◌≡◌, refl, ap, ◌∙◌}
 use mathlib.Core.Bool.{Bool, true, false}
-use mathlib.Core.List.{List, [], ◌∷◌, ◌++◌, map}
+use mathlib.Core.List.{List, [], ◌∷◌, map}
 use native.Mathlib.Omega.{arith}
 use borrow.Author.Tests.{leb-true, leb-false}
 use lib.Dec.{leb}
-use lib.ListN.{length, take, get_or, length-append, length-map}
-use lib.Seq.{sets, length-sets}
+use lib.ListN.{length, get_or, length-append, length-map}
+use lib.Seq.{length-sets}
 use Rattle.number.specs.Number.{pick}
 use Rattle.number.specs.Counts.{cell_no, of_cell}
 use Rattle.bits.specs.Bits.{whole}
 use Rattle.tables.specs.Answering.{pins}
 use Rattle.tables.specs.Orders.{orders, order_at}
-use Rattle.tables.specs.Reordering.{moved_pins, reordered, outcome, Reorders}
+use Rattle.tables.specs.Reordering.{moved_pins, reordered, outcome}
 use Rattle.tables.specs.declared.Reordered.{Reordered}
 use Rattle.tables.proofs.OrderLaws.{order_length}
 use Rattle.covers.specs.Covers.{table_at}
@@ -26,12 +26,12 @@ use Rattle.netlist_entries.specs.Netlists.{net_verdict}
 use Rattle.netlist_entries.specs.Files.{file_of, write_verdict}
 use Rattle.netlist_entries.proofs.CellEntries.{laid_front}
 use Rattle.compile_entries.specs.Compile.{sheet_net}
-use Rattle.texts.specs.Written.{decimal, hex, in_hex, behind_blanks, row}
+use Rattle.texts.specs.Written.{in_hex, behind_blanks, row}
 use Rattle.texts.proofs.Numerals.{decimal_short, hex_short}
 use Rattle.answers.specs.Questions.{Question, room}
 use Rattle.answers.specs.Texts.{line, numbers_of, file_text, no_file_text, written_text}
 use Rattle.answers.specs.Texts.{reaction_text, answer_in, parts, table_text, order_text}
-use Rattle.answers.specs.Answering.{Lends, Answers, longest_answer, Told}
+use Rattle.answers.specs.Answering.{Answers, longest_answer, Told}
 use Rattle.answers.specs.Code.{Says}
 use Rattle.answers.specs.Answering.{no_question, is_rest, is_read, is_checked, is_file, does_fit}
 use Rattle.answers.specs.Answering.{is_written, reacts, file_reacts, is_covered, is_ordered}

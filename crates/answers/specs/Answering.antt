@@ -16,7 +16,7 @@ use Rattle.covers.specs.Covers.{table_at}
 use Rattle.tables.specs.declared.Reordered.{Reordered}
 use Rattle.tables.specs.Reordering.{Reorders}
 use Rattle.texts.specs.Written.{bad_text}
-use Rattle.answers.specs.Questions.{Question, room, question}
+use Rattle.answers.specs.Questions.{Question, room}
 use Rattle.answers.specs.Questions.{rest, read, check, file, fits, write, react, reactfile, cover, order, none}
 use Rattle.answers.specs.Texts.{rest_text, reading_text, answer_text, written_text, reaction_text, order_text}
 

@@ -1,5 +1,5 @@
 -- The questions: a line is the question's word, then the words that it asks about, one blank between two. Any other line is no question.
-use Rattle.std.specs.Prelude.{ℕ, suc, Bool, true, false, cond, not, ◌&&◌, ◌||◌, List, [], ◌∷◌, eqb, leb, ltb, length, take, drop}
+use Rattle.std.specs.Prelude.{ℕ, suc, Bool, cond, List, [], ◌∷◌, eqb, leb, length, take, drop}
 use Rattle.covers.specs.Covers.{size}
 use Rattle.texts.specs.declared.Value.{Value}
 use Rattle.texts.specs.declared.Value.TheVariants.{Is, Bad}

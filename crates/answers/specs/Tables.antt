@@ -1,6 +1,6 @@
 -- Tables in a question. "A TABLE is cell:pin0:pin1:pin2:pin3:truth", and tables have "one comma between two". So tables in a row are a
 -- row of numbers, as a cover is.
-use Rattle.std.specs.Prelude.{ℕ, suc, ◌+◌, ◌%◌, Bool, true, false, cond, List, [], ◌∷◌, ◌++◌, eqb, leb}
+use Rattle.std.specs.Prelude.{ℕ, suc, ◌+◌, ◌%◌, Bool, cond, List, [], ◌∷◌, ◌++◌, eqb, leb}
 use Rattle.tables.specs.Answering.{pins}
 use Rattle.covers.specs.Covers.{size}
 use Rattle.texts.specs.declared.Value.{Value}

@@ -4,7 +4,6 @@ use mathlib.Core.Path.{◌≡◌, refl, sym, ap, ◌∙◌}
 use mathlib.Core.List.{List, [], ◌∷◌, ◌++◌, append_assoc, append-nil}
 use native.Mathlib.Omega.{arith}
 use native.Mathlib.Numerals.{add-one}
-use native.Mathlib.Nat.{zero-add}
 use lib.ListN.{length, get_or, set, take, drop, length-drop, length-append}
 use lib.Seq.{take-suc, take-suc-set, get_or-drop, drop-drop, take_all, paste, paste-suc, sets, sets-eq}
 use Rattle.number.proofs.Lists.{sets_append}

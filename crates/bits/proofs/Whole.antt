@@ -9,12 +9,11 @@ use native.Mathlib.Decide.{dec_lt}
 use lib.Dec.{eqb}
 use lib.ListN.{length, get_or, get_or-eq_default}
 use lib.Pow.{pow_pos, pow-add, shr-shr, high}
-use lib.Seq.{ext_get_or}
 use mir.Syntax.{w64}
 use mir.Val.{Fits}
 use Rattle.bits.specs.declared.Bits.{Bits}
 use Rattle.bits.specs.Bits.{has, words, width, whole_in, whole, words_of, bits_of}
-use Rattle.bits.proofs.Laws.{empty, has_past, ext}
+use Rattle.bits.proofs.Laws.{empty}
 
 -- what every set of the code is, and a list of numbers need not be: so many words, each of 64 bits
 pub record Proper (ws : List ℕ) : Type 0 where

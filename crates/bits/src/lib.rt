@@ -1,4 +1,6 @@
 // Sets of small numbers. `Bits` holds signals or halts, in so many words; a set of codes fits one word, and has functions of its own. No other crate opens a word.
+#![tactic(auto)]
+
 ghost use Rattle.std.specs.Prelude.{◌≡◌, ◌||◌, ◌&&◌, ℕ, ◌+◌, ◌-◌, ◌*◌, ◌/◌, ◌%◌, ◌^◌, ◌<◌, ◌≤◌, min, eqb, ltb, length, take, drop};
 ghost use Rattle.std.proofs.lemmas.List.Edits.{sets};
 ghost use Rattle.bits.specs.Bits.{has, signal_bit, halt_bit, none_from, no_bits, words, width, whole_in, whole, words_of, is_whole};
@@ -129,7 +131,7 @@ pub fn is_whole(column: &[u64]) -> bool
 
 // A set of signals or of halts, in words, the lowest first.
 #[repr(C)]
-#[derive(Drop)]
+#[derive(Clone, Copy)]
 pub struct Bits {
     words: [u64; WORDS],
 }

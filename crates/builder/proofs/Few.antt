@@ -15,7 +15,6 @@ use Rattle.sheet.specs.declared.Binary.TheVariants.{Sequence, Present, Parallel}
 use Rattle.sheet.specs.Stmt.{Stmt, leaf, one, two, size}
 use Rattle.sets.specs.Words.{Low}
 use Rattle.cells.specs.declared.Gate.TheVariants.{Or, And, Butnot}
-use Rattle.cells.specs.declared.Cell.TheVariants.{Gate}
 use Rattle.cells.specs.Cells.{low, signal_cell}
 use Rattle.cells.specs.declared.Gate as gate
 use Rattle.gates.specs.Folding.{New, gate_at, or_at, and_at, butnot_at}

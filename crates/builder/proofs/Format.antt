@@ -211,7 +211,7 @@ halt_register I U t numbered {h} {w} {k} part =
     let e : netlist I U t ≡ p ++ (Register own.operand ∷ q) =
     netlist_front I U t ∙ rw (s.is, own.is) (sym (append_assoc (front I U t) s.earlier (Register own.operand ∷ q))) in
     let long : length p ≡ w.first = omega (arith, s.place, length-append (front I U t) s.earlier, front_length I U t) in
-    let number : of_halt h ≡ 0 + k = part_number (halt_no 0) numbered part in
+    let number : of_halt h ≡ 0 + k = part_number (halt_no 0) part numbered in
     let bits : registers p ≡ 1 + of_halt h =
     registers_append (front I U t) s.earlier ∙ rw (front_registers I U t, s.order) (omega arith) in
     record {

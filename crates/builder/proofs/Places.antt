@@ -174,10 +174,10 @@ part_stands (in_right {b} {p} {q} {t} {w} {w'} {k} s) =
     (closed_right b (given (two b p q)) w.first w.go w.res w.kill (built p left) (built q (right_takes b p w)))) (part_stands s))
 
 -- the halts before it are those with lower numbers
-pub part_number : {t : Stmt} {w w' : Takes} {k : ℕ} {h : HaltNo} (a : HaltNo) → Numbered a t → Part t w (leaf (Halt h)) w' k
+pub part_number : {t : Stmt} {w w' : Takes} {k : ℕ} {h : HaltNo} (a : HaltNo) → Part t w (leaf (Halt h)) w' k → Numbered a t
     → of_halt h ≡ of_halt a + k
 unfolding Numbered
-part_number a m (itself t w) = omega (arith, ap of_halt m)
-part_number a m (in_one s) = part_number a m s
-part_number a m (in_left s) = part_number a m.0 s
-part_number a m (in_right {p = p} {k = k} s) = part_number (halts_on a (halt_count p)) m.1 s ∙ add_assoc (of_halt a) (halt_count p) k
+part_number a (itself t w) m = omega (arith, ap of_halt m)
+part_number a (in_one s) m = part_number a s m
+part_number a (in_left s) m = part_number a s m.0
+part_number a (in_right {p = p} {k = k} s) m = part_number (halts_on a (halt_count p)) s m.1 ∙ add_assoc (of_halt a) (halt_count p) k

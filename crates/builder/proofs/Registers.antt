@@ -14,7 +14,6 @@ use Rattle.sheet.specs.declared.Unary.TheVariants.{Loop, Watching, Trap, Signal}
 use Rattle.sheet.specs.declared.Binary.TheVariants.{Sequence, Present, Parallel}
 use Rattle.sheet.specs.Stmt.{Stmt, leaf, one, two, halt_count}
 use Rattle.cells.specs.declared.Cell.{Cell}
-use Rattle.cells.specs.declared.Cell.TheVariants.{Gate}
 use Rattle.cells.specs.declared.Gate.TheVariants.{Or, And, Butnot}
 use Rattle.cells.specs.Cells.{signal_cell}
 use Rattle.cells.specs.Values.{registers}

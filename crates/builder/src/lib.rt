@@ -1,5 +1,7 @@
 // The netlist of a sheet. The rows are walked once, and the cells go into a lent column. Their count goes on past the column's end, where
 // nothing is stored.
+#![tactic(auto)]
+
 ghost use Rattle.std.specs.Prelude.{◌≡◌, ◌∷◌, map, suc, ◌+◌, ◌-◌, ◌<◌, ◌≤◌, length};
 ghost use Rattle.std.proofs.lemmas.List.Edits.{sets};
 ghost use Rattle.number.specs.Counts.{of_stmt};
@@ -19,7 +21,7 @@ use parts::Returned;
 use sheet::Head;
 
 // The netlist's count of cells, or ROOM.
-#[derive(Drop)]
+#[derive(Clone, Copy)]
 pub enum NetlistBuilt {
     Cells(u16),
     Refused(Fault),
@@ -48,7 +50,7 @@ fn statement(
 ) -> Returned
     requires { Buildable rows.now statics.now lists.old n count }
     ensures { Does (record {
-      rows = rows.entry.now;
+      rows = rows.now;
       statics = statics.now;
       stmt = n;
       next = count;

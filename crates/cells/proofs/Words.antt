@@ -3,9 +3,9 @@ use Prim.Native.Nat.{ℕ, suc, zero, ◌+◌, ◌*◌, ◌%◌, ◌≤◌, ◌<�
 use mathlib.Core.Path.{◌≡◌, refl, sym, ap, ◌∙◌}
 use mathlib.Core.List.{List, [], ◌∷◌, ◌++◌, map}
 use native.Mathlib.Omega.{arith}
-use native.Mathlib.Nat.{add-zero, mod-lt}
+use native.Mathlib.Nat.{mod-lt}
 use lib.Dec.{eqb}
-use lib.ListN.{length, get_or, set, take, drop, length-map, get_or-map}
+use lib.ListN.{length, get_or, take, drop, length-map, get_or-map}
 use lib.Seq.{sets, sets-eq, take_at}
 use Rattle.number.specs.Counts.{cell_no, of_cell, signal_no, of_signal}
 use Rattle.number.specs.Number.{pick}

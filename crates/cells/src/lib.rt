@@ -1,4 +1,6 @@
 // A netlist's cells: their kinds and gates, a cell in one word, the column of words that holds them, and what a cell needs in the same clock.
+#![tactic(auto)]
+
 ghost use Rattle.std.specs.Prelude.{◌≡◌, ◌+◌, ◌*◌, ◌<◌, set, get_or};
 ghost use Rattle.number.specs.Counts.{of_cell};
 ghost use Rattle.cells.specs.Cells as Cells;
@@ -10,7 +12,7 @@ ghost use Rattle.cells.specs.Needs.{pins_of};
 use number::{CellNo, SignalNo};
 
 // The paper's kinds 3 to 5, in its order.
-#[derive(Drop)]
+#[derive(Clone, Copy)]
 pub enum Gate {
     Or,
     And,
@@ -18,7 +20,7 @@ pub enum Gate {
 }
 
 // The paper's kinds, 0 to 6 in its order.
-#[derive(Drop)]
+#[derive(Clone, Copy)]
 pub enum Cell {
     Low,
     High,
@@ -28,7 +30,7 @@ pub enum Cell {
 }
 
 // The operands that a cell needs in the same clock.
-#[derive(Drop)]
+#[derive(Clone, Copy)]
 pub enum Pins {
     None,
     Two(CellNo, CellNo),

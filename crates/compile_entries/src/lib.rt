@@ -1,4 +1,6 @@
 // The entries that compile a sheet: to a file, or to cells.
+#![tactic(auto)]
+
 ghost use Rattle.compile_entries.specs.Compile.{Written, Listed};
 
 use compiler::Compiled;

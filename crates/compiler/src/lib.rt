@@ -1,4 +1,6 @@
 // The whole check of a sheet: it is read, judged, built into a netlist, and its cells are put in an order. The first fault answers.
+#![tactic(auto)]
+
 ghost use Rattle.std.specs.Prelude.{◌≤◌, ◌≡◌, length};
 ghost use Rattle.number.specs.Counts.{of_stmt};
 ghost use Rattle.number.specs.Refusals.{fault};
@@ -14,7 +16,7 @@ use sets::Found;
 use sheet::{Counts, SheetRead};
 
 // How many of each a sheet has, and its cells; or the first fault.
-#[derive(Drop)]
+#[derive(Clone, Copy)]
 pub enum Compiled {
     Program(Counts, u16),
     Refused(Fault),

@@ -1,4 +1,6 @@
 // The entries that check a cover of a netlist, in a file or as I, O and a word for each cell.
+#![tactic(auto)]
+
 ghost use Rattle.std.specs.Prelude.{◌≡◌, length};
 ghost use Rattle.cells.specs.Words.{cells_of};
 ghost use Rattle.cells.specs.Netlist.{netlist_of, WellFormed};

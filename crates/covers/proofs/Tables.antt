@@ -12,7 +12,6 @@ use borrow.Author.Tests.{ltb-true, ltb-false}
 use Rattle.number.specs.Counts.{of_cell}
 use Rattle.number.specs.declared.CellNo.{CellNo}
 use Rattle.tables.specs.declared.Table.{Table}
-use Rattle.tables.specs.Answering.{pins}
 use Rattle.cells.specs.declared.Cell.{Cell}
 use Rattle.cells.specs.declared.Cell.TheVariants.{Low, High, Input, Gate, Register}
 use Rattle.cells.specs.Cells.{cell_at}

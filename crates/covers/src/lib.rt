@@ -1,4 +1,6 @@
 // Covers of a netlist: tables that the packer proposes, each for a gate, held to the cells.
+#![tactic(auto)]
+
 ghost use Rattle.std.specs.Prelude.{◌≡◌, true, List, ℕ, ◌+◌, ◌*◌, ◌<◌, ◌≤◌, length};
 ghost use Rattle.number.specs.Counts.{of_cell};
 ghost use Rattle.limits.specs.Limits.{max_signals};
@@ -24,7 +26,7 @@ const SIZE: usize = Table::PINS + 2;
 
 // The answer: the cover is right, or this is the number of its first wrong table; the number of tables, where none is and an output or a
 // register's operand lacks one.
-#[derive(Drop)]
+#[derive(Clone, Copy)]
 pub enum Covering {
     Right,
     Wrong(usize),

@@ -2,6 +2,8 @@
 // value at every setting of the pins, a bit for each, so that all settings are gone through at once. Marks are counted from a base, which
 // is two higher for the next table, so that none is ever cleared: up to the base a cell is new, one past it a pin that is not met, two past
 // it a cell whose word is known.
+#![tactic(auto)]
+
 ghost use Rattle.std.specs.Prelude.{◌≡◌, false, List, ℕ, ◌+◌, ◌<◌, ◌≤◌, length, set};
 ghost use Rattle.number.specs.Counts.{of_cell};
 ghost use Rattle.number.specs.declared.CellNo.{CellNo};
@@ -19,7 +21,7 @@ use number::CellNo;
 use tables::Table;
 
 // After a visit to the cell on top: so many cells are on the way; or it is a register or an input that is no pin.
-#[derive(Drop)]
+#[derive(Clone, Copy)]
 enum Step {
     On(usize),
     Stray,

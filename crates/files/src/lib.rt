@@ -1,4 +1,6 @@
 // The reader of netlist files.
+#![tactic(auto)]
+
 ghost use Rattle.std.specs.Prelude.{◌≡◌, ◌&&◌, ◌+◌, ◌≤◌, eqb, leb};
 ghost use Rattle.number.specs.Counts.{cell_no};
 ghost use Rattle.number.specs.Number.{number_at};
@@ -18,7 +20,7 @@ pub const FILE_KINDS: u32 = 7;
 pub const WORD_KINDS: u32 = 6;
 
 // I, O and the count of cells.
-#[derive(Drop)]
+#[derive(Clone, Copy)]
 pub struct Header {
     pub inputs: u32,
     pub outputs: u32,
@@ -26,39 +28,39 @@ pub struct Header {
 }
 
 // What is found of a count, a kind or a word.
-#[derive(Drop)]
+#[derive(Clone, Copy)]
 pub enum Judgement {
     Right,
     Wrong(Refusal),
 }
 
 // An operand with the cursor past it, two of them, a cell: or the refusal.
-#[derive(Drop)]
+#[derive(Clone, Copy)]
 pub enum NetRead {
     Net(CellNo, Cursor),
     Refused(Fault),
 }
 
-#[derive(Drop)]
+#[derive(Clone, Copy)]
 pub enum PairRead {
     Pair(CellNo, CellNo, Cursor),
     Refused(Fault),
 }
 
-#[derive(Drop)]
+#[derive(Clone, Copy)]
 pub enum CellRead {
     Read(Cell, Cursor),
     Refused(Fault),
 }
 
 // The offset past all cells, or the refusal.
-#[derive(Drop)]
+#[derive(Clone, Copy)]
 pub enum CellsRead {
     Past(usize),
     Refused(Fault),
 }
 
-#[derive(Drop)]
+#[derive(Clone, Copy)]
 pub enum FileRead {
     Read(Header),
     Refused(Fault),

@@ -99,15 +99,15 @@ cut zero (c ∷ cs) n keep h =
     let e : v ≡ record { cells = []; net = low; above = low } = rw (here, rest.above 0) (level_low (n + length r.cells) (keep 0) low) in
     record {
       cells = ap (λ (u : List Cell). u ++ v.cells) rest.cells ∙ ap (λ (w : NewCode). w.cells) e;
-      nets = λ j. elim j [ zero ↦ ap (λ (w : NewCode). w.net) e | suc i ↦ rest.nets i ];
-      above = λ j. elim j [ zero ↦ ap (λ (w : NewCode). w.above) e | suc i ↦ rest.above i ];
+      nets = λ j. elim j as (λ (i : ℕ). code (highest n keep (c ∷ cs)).nets i ≡ low) [ zero ↦ ap (λ (w : NewCode). w.net) e | suc i ↦ rest.nets i ];
+      above = λ j. elim j as (λ (i : ℕ). code (highest n keep (c ∷ cs)).above i ≡ low) [ zero ↦ ap (λ (w : NewCode). w.above) e | suc i ↦ rest.above i ];
     }
 cut (suc k) (c ∷ cs) n keep h =
     let rest = cut k cs n (λ j. keep (suc j)) (λ j l. h (suc j) (omega arith)) in
     record {
       cells = rw (rest.cells, rest.above 0);
-      nets = λ j. elim j [ zero ↦ rw (rest.cells, rest.above 0) | suc i ↦ rest.nets i ];
-      above = λ j. elim j [ zero ↦ rw (rest.cells, rest.above 0) | suc i ↦ rest.above i ];
+      nets = λ j. elim j as (λ (i : ℕ). code (highest n keep (c ∷ cs)).nets i ≡ code (highest n keep (take (suc k) (c ∷ cs))).nets i) [ zero ↦ rw (rest.cells, rest.above 0) | suc i ↦ rest.nets i ];
+      above = λ j. elim j as (λ (i : ℕ). code (highest n keep (c ∷ cs)).above i ≡ code (highest n keep (take (suc k) (c ∷ cs))).above i) [ zero ↦ rw (rest.cells, rest.above 0) | suc i ↦ rest.above i ];
     }
 
 cut_row : (k : ℕ) (cs : List (CellNo × CellNo)) (n : ℕ) (keep : ℕ → Bool) → NoneFrom (suc k) cs
@@ -118,7 +118,7 @@ cut_row k (c ∷ cs) n keep h =
     let rest = cut k cs n (λ j. keep (suc j)) (λ j l. h (suc j) (omega arith)) in
     record {
       cells = rw (rest.cells, rest.above 0);
-      nets = λ j. elim j [ zero ↦ rw (rest.cells, rest.above 0) | suc i ↦ rest.nets i ];
+      nets = λ j. elim j as (λ (i : ℕ). code (parallel_row n keep (c ∷ cs)).nets i ≡ code (parallel_row n keep (take (suc k) (c ∷ cs))).nets i) [ zero ↦ rw (rest.cells, rest.above 0) | suc i ↦ rest.nets i ];
       above = rest.above;
     }
 

@@ -11,7 +11,6 @@ use Rattle.number.specs.declared.CellNo.{CellNo}
 use Rattle.limits.specs.Limits.{max_codes}
 use Rattle.cells.specs.declared.Gate as gate
 use Rattle.cells.specs.declared.Cell.{Cell}
-use Rattle.cells.specs.declared.Cell.TheVariants.{Gate}
 use Rattle.cells.specs.declared.Gate.TheVariants.{Or, Butnot}
 use Rattle.cells.specs.Cells.{low}
 use Rattle.cells.proofs.Within.{AllWithin, none_within, append_within}
@@ -90,7 +89,7 @@ module _ (s m : ℕ) where
       let rest : RowWithin s m r = or_row_within ps qs (n + length o.cells) (λ j. hp (suc j)) (λ j. hq (suc j)) (omega arith) in
       record {
         operands = append_within s m o.cells r.cells this.operands rest.operands;
-        nets = λ j. elim j [ zero ↦ this.net | suc i ↦ rest.nets i ];
+        nets = λ j. elim j as (λ (k : ℕ). of_cell (code (o.net ∷ r.nets) k) < m) [ zero ↦ this.net | suc i ↦ rest.nets i ];
       }
 
   only_if_within : (keep : Bool) (w : New) → (length w.cells ≤ length (only_if keep w).cells → NewWithin s m w) → 0 < m
@@ -148,8 +147,8 @@ module _ (s m : ℕ) where
       let this : LevelWithin s m v = level_within n₁ (keep 0) c.0 c.1 (code r.above 0) (hc 0).0 (hc 0).1 (rest.above 0) (omega arith) in
       record {
         operands = append_within s m r.cells v.cells rest.operands this.operands;
-        nets = λ j. elim j [ zero ↦ this.net | suc i ↦ rest.nets i ];
-        above = λ j. elim j [ zero ↦ this.above | suc i ↦ rest.above i ];
+        nets = λ j. elim j as (λ (k : ℕ). of_cell (code (v.net ∷ r.nets) k) < m) [ zero ↦ this.net | suc i ↦ rest.nets i ];
+        above = λ j. elim j as (λ (k : ℕ). of_cell (code (v.above ∷ r.above) k) < m) [ zero ↦ this.above | suc i ↦ rest.above i ];
       }
 
   row_of_pairs : (cs : List (CellNo × CellNo)) (n : ℕ) (keep : ℕ → Bool) → PairsBelow cs → 0 < m → n + length (parallel_row n keep cs).cells ≤ m
@@ -169,7 +168,7 @@ module _ (s m : ℕ) where
       last_within n₁ (keep 0) c.0 c.1 x (hc 0).0 (hc 0).1 (rest.above 0) (omega arith) in
       record {
         operands = append_within s m r.cells last rest.operands (append_within s m o.cells b.cells both.0.operands both.1.operands);
-        nets = λ j. elim j [ zero ↦ both.1.net | suc i ↦ rest.nets i ];
+        nets = λ j. elim j as (λ (k : ℕ). of_cell (code (b.net ∷ r.nets) k) < m) [ zero ↦ both.1.net | suc i ↦ rest.nets i ];
         above = rest.above;
       }
 

@@ -1,4 +1,6 @@
 // New cells with their folding, which go into a lent column, and rows of code nets.
+#![tactic(auto)]
+
 ghost use Rattle.std.specs.Prelude.{◌≡◌, ◌+◌, ◌<◌};
 ghost use Rattle.bits.specs.Bits.{has};
 ghost use Rattle.limits.specs.Limits.{max_codes};
@@ -20,7 +22,7 @@ fn is_low(x: CellNo) -> bool
 }
 
 // The next number, and the net that was made.
-#[derive(Drop)]
+#[derive(Clone, Copy)]
 pub struct Put {
     pub count: u16,
     pub cell: CellNo,
@@ -138,7 +140,7 @@ pub fn trap_row(o: CellNo, c: [CellNo; MAX_CODES]) -> [CellNo; MAX_CODES]
 }
 
 // The next number, and a row of nets.
-#[derive(Drop)]
+#[derive(Clone, Copy)]
 pub struct Nets {
     pub count: u16,
     pub nets: [CellNo; MAX_CODES],
@@ -177,7 +179,7 @@ fn kept(cells: &mut [u64], count: u16, m: CellNo, x: CellNo, keep: bool) -> Put
 }
 
 // The next number, a code's net, and x after it.
-#[derive(Drop)]
+#[derive(Clone, Copy)]
 struct Level {
     count: u16,
     net: CellNo,
@@ -211,7 +213,7 @@ fn code_zero(cells: &mut [u64], count: u16, p: CellNo, q: CellNo, x: CellNo, kee
 }
 
 // The next number, a parallel's row of nets, and x after code 2.
-#[derive(Drop)]
+#[derive(Clone, Copy)]
 pub struct Highest {
     pub count: u16,
     pub nets: [CellNo; MAX_CODES],

@@ -1,4 +1,6 @@
 // The reactions of a sheet by the rules. E is made anew of tick, the inputs and the emissions until nothing changes that the sheet asks for; the netlist is not run.
+#![tactic(auto)]
+
 ghost use Rattle.std.specs.Prelude.{◌≡◌, true};
 ghost use Rattle.bits.specs.Bits.{whole};
 ghost use Rattle.sheet.specs.Read.{only};
@@ -15,7 +17,7 @@ use verdicts::{Course, Reaction, Stop};
 
 // A sheet that was compiled, made ready once for all events: its counts, how many cells it has, and the signals that it asks for. Its rows and its static sets
 // stand beside it, in the columns that it was compiled into.
-#[derive(Drop)]
+#[derive(Clone, Copy)]
 pub struct Program {
     pub counts: Counts,
     pub cells: u16,

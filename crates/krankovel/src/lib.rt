@@ -1,4 +1,6 @@
 // The public entries. Any bytes, any words, any lent buffer: each answers, or refuses with the paper's number and place.
+#![tactic(auto)]
+
 pub use bits::Bits;
 pub use compile_entries::{compile, compile_cells};
 pub use cover_entries::{cover_cells, cover_file};

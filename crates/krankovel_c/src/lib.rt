@@ -1,4 +1,6 @@
 // The public entries for C; include/krankovel.h documents them. Each hands on what the entry of its name answers, so its contract is the entry's own.
+#![tactic(auto)]
+
 ghost use Rattle.std.specs.Prelude.{◌≡◌};
 ghost use Rattle.bits.specs.Bits.{has, whole};
 ghost use Rattle.sheet.specs.Read.{read_sheet};

@@ -8,10 +8,9 @@ use lib.ListN.{length, take, length-map}
 use Rattle.number.specs.declared.Fault.{Fault}
 use Rattle.limits.specs.Limits.{max_cells, max_registers}
 use Rattle.cells.specs.Words.{cell_in, cells_of}
-use Rattle.cells.specs.Netlist.{Netlist, netlist_of, WellFormed}
+use Rattle.cells.specs.Netlist.{Netlist, netlist_of}
 use Rattle.cells.proofs.Words.{cells_length}
 use Rattle.cells.proofs.Fitting.{formed_closed}
-use Rattle.order.specs.Paths.{Ordered}
 use Rattle.run.specs.React.{Clockable, Numberable, Numbers, Prepared}
 use Rattle.files.specs.declared.FileRead.{FileRead}
 use Rattle.files.specs.declared.FileRead.TheVariants.{Read, Refused}
@@ -23,7 +22,7 @@ use Rattle.netlists.specs.Check.{NetChecks, accepted}
 use Rattle.netlists.specs.Checked.{DidCheck, DidCheckFile}
 use Rattle.netlists.proofs.Checking.{answered_fault}
 use Rattle.netlists.proofs.Words.{CellsRight, cells_right}
-use Rattle.netlists.proofs.Running.{Accepts, accepts, same_net, file, sound, count, file_is, file_formed, file_ordered, cells_formed, cells_ordered}
+use Rattle.netlists.proofs.Running.{Accepts, accepts, same_net, sound, count, file_formed, file_ordered, cells_formed, cells_ordered}
 use Rattle.verdicts.specs.Answers.{answer_of, refusal, acceptance}
 use Rattle.netlist_entries.specs.Netlists.{net_verdict, net_accepted, NetChecked}
 use Rattle.netlist_entries.specs.Code.{Checked}

@@ -1,4 +1,6 @@
 // The entries that take a netlist, in a file or as I, O and a word for each cell. `written` and `handed` serve the compiled netlist of a sheet as well.
+#![tactic(auto)]
+
 ghost use Rattle.std.specs.Prelude.{◌≡◌, ◌≤◌, map, length};
 ghost use Rattle.std.proofs.lemmas.List.Edits.{sets};
 ghost use Rattle.limits.specs.Limits.{max_cells};

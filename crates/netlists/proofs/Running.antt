@@ -1,6 +1,6 @@
 -- What a netlist that was accepted is, in either form: well formed, its cells in order; and which files are accepted.
 use Prim.Native.Nat.{ℕ, ◌≤◌}
-use mathlib.Core.Path.{◌≡◌, sym, ap, ◌∙◌, subst}
+use mathlib.Core.Path.{◌≡◌, sym, ap, subst}
 use mathlib.Core.List.{List}
 use lib.ListN.{length, take}
 use Rattle.number.specs.Number.{Bytes}

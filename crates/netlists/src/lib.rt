@@ -1,4 +1,6 @@
 // A netlist in either form, a file's bytes or I, O and words: judged, its cells ordered, and written to a file.
+#![tactic(auto)]
+
 mod writer;
 
 ghost use Rattle.std.specs.Prelude.{◌≡◌, ◌&&◌, ◌<◌, ◌≤◌, length, get_or, take};

@@ -13,7 +13,7 @@ use cells::{Cell, Gate};
 use number::{CellNo, Fault, Refusal};
 
 // The length of the file that was written, or BUFFER.
-#[derive(Drop)]
+#[derive(Clone, Copy)]
 pub enum FileWritten {
     Length(usize),
     Refused(Fault),

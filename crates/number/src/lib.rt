@@ -1,22 +1,24 @@
 // The numbers of a sheet: how one is read and written, the numbers of the four counts as types of their own, and the refusals by name.
+#![tactic(auto)]
+
 ghost use Rattle.std.specs.Prelude.{◌≡◌};
 ghost use Rattle.number.specs.Counts.{signal_no, of_signal, halt_no, of_halt, stmt_no, of_stmt, cell_no, of_cell};
 ghost use Rattle.number.specs.Refusals.{refusal_no};
 ghost use Rattle.number.specs.Number.{number_at, IsRefused, written, written_end};
 
 // "a number of one count must never serve as a number of another": the fields are private, so nobody converts but by these functions.
-#[derive(Drop)]
+#[derive(Clone, Copy)]
 pub struct SignalNo(u16);
 
-#[derive(Drop)]
+#[derive(Clone, Copy)]
 pub struct HaltNo(u16);
 
-#[derive(Drop)]
+#[derive(Clone, Copy)]
 pub struct StmtNo(u16);
 
 // Laid out for C, since a table of cells goes there whole.
 #[repr(C)]
-#[derive(Drop)]
+#[derive(Clone, Copy)]
 pub struct CellNo(u16);
 
 impl SignalNo {
@@ -77,7 +79,7 @@ impl CellNo {
 
 // The paper's "Numbers returned", 1 to 16 in its order, and those that the requests add, 17 to 22, by the names that they have there. These stand here whether or
 // not their request has landed, so that none adds a case to a type that every crate goes by.
-#[derive(Drop)]
+#[derive(Clone, Copy)]
 pub enum Refusal {
     Short,
     Number,
@@ -104,7 +106,7 @@ pub enum Refusal {
 }
 
 // A refusal with its place.
-#[derive(Drop)]
+#[derive(Clone, Copy)]
 pub struct Fault {
     pub refusal: Refusal,
     pub place: usize,
@@ -140,13 +142,13 @@ pub fn refusal_no(r: Refusal) -> u8
 }
 
 // Where a reader is.
-#[derive(Drop)]
+#[derive(Clone, Copy)]
 pub struct Cursor {
     pub at: usize,
 }
 
 // What reading a number finds: its value with the cursor past it, or the refusal.
-#[derive(Drop)]
+#[derive(Clone, Copy)]
 pub enum NumberRead {
     Value(u32, Cursor),
     Refused(Fault),

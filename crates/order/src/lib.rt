@@ -1,4 +1,6 @@
 // CYCLE: an order in which each cell stands after those that it needs in the same clock, or the lowest cell on a cycle.
+#![tactic(auto)]
+
 ghost use Rattle.std.specs.Prelude.{◌≡◌, ◌+◌, ◌<◌, ◌≤◌, length};
 ghost use Rattle.number.specs.Counts.{of_cell};
 ghost use Rattle.cells.specs.Words.{cells_of};
@@ -10,14 +12,14 @@ use cells::Pins;
 use number::CellNo;
 
 // The answer: an order was found, or this is the lowest cell on a cycle.
-#[derive(Drop)]
+#[derive(Clone, Copy)]
 pub enum Ordering {
     Found,
     Cycle(CellNo),
 }
 
 // What is next for the cell on top of the stack: an operand that no search has met, an operand that is below it on the stack, or its place.
-#[derive(Drop)]
+#[derive(Clone, Copy)]
 enum Next {
     New(CellNo),
     Open,
@@ -25,14 +27,14 @@ enum Next {
 }
 
 // After a step: the search goes on, with that many cells on the stack and that many placed; or it came back to an open cell.
-#[derive(Drop)]
+#[derive(Clone, Copy)]
 enum Step {
     On(usize, usize),
     Back,
 }
 
 // After the search from a cell: that many cells are placed; or it met a cycle.
-#[derive(Drop)]
+#[derive(Clone, Copy)]
 enum Visit {
     Placed(usize),
     Cyclic,

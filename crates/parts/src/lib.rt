@@ -1,5 +1,7 @@
 // What a statement makes before, between and after its parts; a leaf makes all of it at once. The cells go into a lent column. Their count goes
 // on past the column's end, where nothing is stored.
+#![tactic(auto)]
+
 ghost use Rattle.std.specs.Prelude.{◌≡◌, List, ℕ, ◌+◌, ◌<◌, length};
 ghost use Rattle.number.specs.Counts.{of_signal};
 ghost use Rattle.bits.specs.Bits.{has};
@@ -19,7 +21,7 @@ use number::{CellNo, SignalNo};
 use sheet::{Binary, Leaf, Unary};
 
 // The next number after a statement's cells, its sel and its codes.
-#[derive(Drop)]
+#[derive(Clone, Copy)]
 pub struct Returned {
     pub count: u16,
     pub sel: CellNo,
@@ -105,7 +107,7 @@ pub fn leaf_cells(
 }
 
 // The next number, and what the parts of a statement get: go, the second part's go, resume, kill.
-#[derive(Drop)]
+#[derive(Clone, Copy)]
 pub struct Opened {
     pub count: u16,
     pub go: CellNo,

@@ -1,4 +1,6 @@
 // The reaction rules: a start and a resumption of a statement, the states that fit and those at rest.
+#![tactic(auto)]
+
 ghost use Rattle.std.specs.Prelude.{◌≤◌, ◌≡◌, true};
 ghost use Rattle.number.specs.Counts.{of_halt};
 ghost use Rattle.limits.specs.Limits.{max_halts};
@@ -17,7 +19,7 @@ use sheet::{Binary, Head, Leaf, Unary};
 
 // "A statement yields emissions, a code and halts." A halt stands at its bit of the state. The code has a word of its own, since a struct without gaps is handed
 // on faster.
-#[derive(Drop)]
+#[derive(Clone, Copy)]
 pub struct Yield {
     pub emits: Bits,
     pub code: u64,

@@ -1,17 +1,12 @@
 -- Registers, counted in a pass over the cells.
-use Prim.Native.Nat.{ℕ, suc, ◌+◌, ◌<◌, ◌≤◌}
+use Prim.Native.Nat.{ℕ, ◌+◌, ◌<◌, ◌≤◌}
 use mathlib.Core.Path.{◌≡◌, refl, sym, ap, ◌∙◌}
-use mathlib.Core.Bool.{Bool}
-use mathlib.Core.List.{List, [], ◌∷◌, ◌++◌}
+use mathlib.Core.List.{List}
 use native.Mathlib.Omega.{arith}
-use native.Mathlib.Numerals.{add-one}
-use native.Mathlib.Nat.{zero-add}
-use lib.ListN.{length, take, drop, take-append-drop}
-use lib.Seq.{take-suc, take_all}
+use lib.ListN.{length, take}
+use lib.Seq.{take_all}
 use Rattle.number.specs.Counts.{cell_no}
-use Rattle.number.specs.declared.CellNo.{CellNo}
 use Rattle.cells.specs.declared.Cell.{Cell}
-use Rattle.cells.specs.declared.Cell.TheVariants.{Low, High, Input, Gate, Register}
 use Rattle.cells.specs.Cells.{cell_at}
 use Rattle.cells.specs.Values.{tally, registers}
 use Rattle.cells.proofs.Counting.{tally_le, registers_next, registers_le}

@@ -1,5 +1,5 @@
 -- One clock of a netlist: that is to be believed. What stands below it is not: what the code keeps to, and the proofs check.
-use Rattle.std.specs.Prelude.{◌≡◌, Bool, true, false, ◌&&◌, List, [], ◌∷◌, ℕ, ◌+◌, ◌≤◌, ltb, length, get_or, take}
+use Rattle.std.specs.Prelude.{◌≡◌, Bool, false, ◌&&◌, List, ℕ, ◌+◌, ◌≤◌, ltb, length, get_or, take}
 use Rattle.number.specs.Counts.{cell_no, of_cell}
 use Rattle.number.specs.declared.CellNo.{CellNo}
 use Rattle.number.specs.declared.SignalNo.{SignalNo}

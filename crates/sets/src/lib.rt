@@ -1,5 +1,7 @@
 // The static sets K and R of every statement, and the first statement at fault. A set of codes is a word with the codes as its bits;
 // `statics` is the column of all K and R.
+#![tactic(auto)]
+
 ghost use Rattle.std.specs.Prelude.{◌≡◌, ◌&&◌, ◌||◌, ℕ, ◌^◌, ◌<◌, ◌≤◌, length};
 ghost use Rattle.number.specs.Counts.{of_stmt};
 ghost use Rattle.limits.specs.Limits.{max_codes};
@@ -17,7 +19,7 @@ use number::StmtNo;
 use sheet::{Binary, Head, Leaf, Unary};
 
 // A statement that is at fault, or that there is none.
-#[derive(Drop)]
+#[derive(Clone, Copy)]
 pub enum Found {
     At(StmtNo),
     Clear,
@@ -27,7 +29,7 @@ pub enum Found {
 const CODE_SPAN: u64 = 1 << limits::MAX_CODES;
 
 // K and R of a statement.
-#[derive(Drop)]
+#[derive(Clone, Copy)]
 pub struct Both {
     pub k: u64,
     pub r: u64,

@@ -1,4 +1,6 @@
 // The sheet: its statements, the reader into rows, and what a later walk reads off a row.
+#![tactic(auto)]
+
 ghost use Rattle.std.specs.Prelude.{◌≡◌, ◌<◌, ◌≤◌, ◌+◌, length, set};
 ghost use Rattle.number.specs.Counts.{of_stmt};
 ghost use Rattle.number.specs.Number.{number_at};
@@ -14,7 +16,7 @@ use bits::Bits;
 use number::{Cursor, Fault, HaltNo, NumberRead, Refusal, SignalNo, StmtNo};
 
 // A statement without parts, and what is said of one with one or two before its parts.
-#[derive(Drop)]
+#[derive(Clone, Copy)]
 pub enum Leaf {
     Nothing,
     Halt(HaltNo),
@@ -22,7 +24,7 @@ pub enum Leaf {
     Exit(u16),
 }
 
-#[derive(Drop)]
+#[derive(Clone, Copy)]
 pub enum Unary {
     Loop,
     Watching(SignalNo),
@@ -30,14 +32,14 @@ pub enum Unary {
     Signal(SignalNo),
 }
 
-#[derive(Drop)]
+#[derive(Clone, Copy)]
 pub enum Binary {
     Sequence,
     Present(SignalNo),
     Parallel,
 }
 
-#[derive(Drop)]
+#[derive(Clone, Copy)]
 pub enum Head {
     Zero(Leaf),
     One(Unary),
@@ -45,7 +47,7 @@ pub enum Head {
 }
 
 // Where the reader is: the offset, the next halt's number and the next local's.
-#[derive(Drop)]
+#[derive(Clone, Copy)]
 pub struct Marks {
     pub at: usize,
     pub halts: HaltNo,
@@ -53,7 +55,7 @@ pub struct Marks {
 }
 
 // What holds around a statement: the number of inputs and of traps, and the set of the signals that may be named.
-#[derive(Drop)]
+#[derive(Clone, Copy)]
 pub struct Env {
     pub inputs: u16,
     pub traps: u16,
@@ -61,28 +63,28 @@ pub struct Env {
 }
 
 // A signal that was named, or the refusal.
-#[derive(Drop)]
+#[derive(Clone, Copy)]
 pub enum SignalRead {
     Named(SignalNo, Marks),
     Refused(Fault),
 }
 
 // A statement's kind with its operand, or the refusal.
-#[derive(Drop)]
+#[derive(Clone, Copy)]
 pub enum HeadRead {
     Read(Head, Marks),
     Refused(Fault),
 }
 
 // The number past a statement that was read, or the refusal.
-#[derive(Drop)]
+#[derive(Clone, Copy)]
 pub enum StmtRead {
     Next(StmtNo, Marks),
     Refused(Fault),
 }
 
 // How many of each a sheet has; signals with tick.
-#[derive(Drop)]
+#[derive(Clone, Copy)]
 pub struct Counts {
     pub inputs: u16,
     pub outputs: u16,
@@ -91,14 +93,14 @@ pub struct Counts {
     pub signals: u16,
 }
 
-#[derive(Drop)]
+#[derive(Clone, Copy)]
 pub enum SheetRead {
     Read(Counts),
     Refused(Fault),
 }
 
 // What a row says: the statement without its parts, the number past its last part, its first halt and the one past its last.
-#[derive(Drop)]
+#[derive(Clone, Copy)]
 pub struct Row {
     pub head: Head,
     pub end: StmtNo,

@@ -1,5 +1,5 @@
 -- Nothing else satisfies the description: two answers of an entry to the same arguments are equal, and so is what was lent after them.
-use mathlib.Core.Path.{◌≡◌, refl, sym, ◌∙◌}
+use mathlib.Core.Path.{◌≡◌, sym, ◌∙◌}
 use mathlib.Core.Bool.{true}
 use mathlib.Core.List.{List}
 use Prim.Native.Nat.{ℕ}

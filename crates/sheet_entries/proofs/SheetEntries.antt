@@ -17,7 +17,7 @@ use Rattle.rules.specs.Words.{Runnable, root, KnownRoot, Fitted}
 use Rattle.rules.proofs.Walks.{run_proper}
 use Rattle.rules.proofs.Fitting.{known_proper}
 use Rattle.compiler.specs.Check.{Checks}
-use Rattle.interpreter.specs.Program.{PreparedAs, Prepared, Prepares, AcceptedRuns}
+use Rattle.interpreter.specs.Program.{PreparedAs, Prepares, AcceptedRuns}
 use Rattle.interpreter.proofs.Interpreting.{Compiled_as, accepted_proper}
 use Rattle.interpreter.specs.declared.Program.{Program}
 use Rattle.verdicts.specs.Answers.{verdict, answer_of, refusal, acceptance, with_state}

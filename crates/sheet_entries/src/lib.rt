@@ -1,4 +1,6 @@
 // The entries that take a sheet and run it, or ask of it.
+#![tactic(auto)]
+
 ghost use Rattle.std.specs.Prelude.{◌≡◌};
 ghost use Rattle.bits.specs.Bits.{has, whole};
 ghost use Rattle.sheet.specs.Read.{read_sheet};

@@ -1,4 +1,6 @@
 // Lookup tables of four pins: what one is, and its pins and truth table reordered together.
+#![tactic(auto)]
+
 mod rows;
 
 ghost use Rattle.std.specs.Prelude.{◌≡◌, ◌<◌, length};
@@ -10,7 +12,7 @@ use number::{CellNo, Refusal};
 
 // The cell whose value the table answers, the cells at its pins, and a bit for each setting of the pins: pin p weighs 2 to the p.
 #[repr(C)]
-#[derive(Drop)]
+#[derive(Clone, Copy)]
 pub struct Table {
     pub cell: CellNo,
     pub pins: [CellNo; Table::PINS],
@@ -19,7 +21,7 @@ pub struct Table {
 
 // What a reorder answers: 0 with the table reordered, or ORDER with the table as it was.
 #[repr(C)]
-#[derive(Drop)]
+#[derive(Clone, Copy)]
 pub struct Reordered {
     pub number: u8,
     pub place: usize,

@@ -10,12 +10,12 @@ use Rattle.bits.specs.Bits.{whole}
 use Rattle.rules.specs.Words.{Fitted}
 use Rattle.compiler.specs.Check.{Accepted}
 use Rattle.sheet.specs.Read.{Sheet}
-use Rattle.interpreter.specs.Program.{PreparedAs, Prepared, AcceptedRuns, ProgramReacts}
+use Rattle.interpreter.specs.Program.{Prepared, AcceptedRuns, ProgramReacts}
 use Rattle.verdicts.specs.declared.Reaction.{Reaction}
 use Rattle.verdicts.specs.Runs.{Once}
 use Rattle.sheet_entries.specs.Sheets.{ReactedMany}
 use Rattle.sheet_entries.proofs.SheetEntries.{many_ran}
-use Rattle.texts.specs.declared.Value.TheVariants.{Is, Bad}
+use Rattle.texts.specs.declared.Value.TheVariants.{Is}
 use Rattle.texts.specs.declared.Hex.{Hex}
 use Rattle.texts.specs.declared.SetRead.{SetRead}
 use Rattle.texts.specs.Digits.{value_of, SetIs}

@@ -2,7 +2,7 @@
 use mathlib.Core.Path.{◌≡◌, refl, sym, ap, ◌∙◌}
 use mathlib.Core.Bool.{Bool, true, false}
 use mathlib.Core.List.{List, [], ◌∷◌, ◌++◌, append-nil}
-use Prim.Native.Nat.{ℕ, zero, suc, ◌+◌, ◌*◌, ◌≤◌}
+use Prim.Native.Nat.{ℕ, zero, suc, ◌+◌, ◌*◌}
 use native.Mathlib.Omega.{arith}
 use lib.Dec.{leb}
 use lib.ListN.{length, take, drop, replicate, drop_of_length-le, length-replicate}
@@ -11,14 +11,13 @@ use borrow.Author.Tests.{leb-true}
 use Rattle.number.specs.declared.Fault.{Fault}
 use Rattle.number.specs.Number.{pick}
 use Rattle.number.proofs.Bools.{and_left, and_right}
-use Rattle.bits.specs.Bits.{words, whole_in, words_of, sets_in, column_of}
+use Rattle.bits.specs.Bits.{words, whole_in, words_of, sets_in}
 use Rattle.bits.proofs.Whole.{words_of_long}
 use Rattle.run.specs.Many.{Step, Steps, Room, Ran}
 use Rattle.run.proofs.Going.{SameSteps}
 use Rattle.verdicts.specs.declared.Answer.{Answer}
 use Rattle.verdicts.specs.declared.Course.{Course}
 use Rattle.verdicts.specs.declared.Reaction.{Reaction}
-use Rattle.verdicts.specs.declared.Stop.{Stop}
 use Rattle.verdicts.specs.declared.Stop.TheVariants.{Nothing, By}
 use Rattle.verdicts.specs.Answers.{Verdict, passes, stops, verdict, answer_of, refusal, buffer_after, with_state, reaction_of, stop_of}
 use Rattle.verdicts.specs.Runs.{Asked, Told, needed, has_room, state_after, Runs, Once}

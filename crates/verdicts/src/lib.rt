@@ -1,4 +1,6 @@
 // What the public entries answer: the paper's number and place, the counts, and the order of the faults that a run over events can have.
+#![tactic(auto)]
+
 ghost use Rattle.std.specs.Prelude.{◌≡◌, ◌&&◌, ◌*◌, ◌/◌, leb, length};
 ghost use Rattle.bits.specs.Bits.{words, whole};
 ghost use Rattle.verdicts.specs.Answers as Answers;
@@ -8,7 +10,7 @@ use number::{Fault, Refusal};
 
 // The number, 0 for acceptance, its place, and the counts of statements and cells.
 #[repr(C)]
-#[derive(Drop)]
+#[derive(Clone, Copy)]
 pub struct Answer {
     pub number: u8,
     pub place: usize,
@@ -18,7 +20,7 @@ pub struct Answer {
 
 // An answer with the signals that a reaction gives, signal s at bit s, and the next state.
 #[repr(C)]
-#[derive(Drop)]
+#[derive(Clone, Copy)]
 pub struct Reaction {
     pub number: u8,
     pub place: usize,
@@ -30,7 +32,7 @@ pub struct Reaction {
 
 // An answer with the numbers of inputs and outputs, both 0 on a refusal, of a netlist whose cells were handed out.
 #[repr(C)]
-#[derive(Drop)]
+#[derive(Clone, Copy)]
 pub struct Listing {
     pub number: u8,
     pub place: usize,
@@ -42,7 +44,7 @@ pub struct Listing {
 
 // What reading alone answers.
 #[repr(C)]
-#[derive(Drop)]
+#[derive(Clone, Copy)]
 pub struct Reading {
     pub number: u8,
     pub place: usize,
@@ -53,7 +55,7 @@ pub struct Reading {
 
 // The answer to a run over events, with the state after the last of them; a refusal has the state handed in.
 #[repr(C)]
-#[derive(Drop)]
+#[derive(Clone, Copy)]
 pub struct Course {
     pub number: u8,
     pub place: usize,
@@ -63,7 +65,7 @@ pub struct Course {
 }
 
 // What stops a run over events.
-#[derive(Drop)]
+#[derive(Clone, Copy)]
 pub enum Stop {
     Nothing,
     By(Fault),

@@ -1,0 +1,5 @@
+-- The test is on the number that `number` answers.
+use Rattle.limits.proofs.statements_full.Goals as goal
+
+pub returns : goal.returns
+returns c = rw c.number.ensures

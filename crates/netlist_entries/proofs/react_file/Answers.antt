@@ -1,0 +1,9 @@
+-- A run over one event: what was written as the event is its words, and the first set of the lent slice is what the run gave.
+use Rattle.files.specs.Read.{read_file}
+use Rattle.verdicts.proofs.Running.{once_of}
+use Rattle.netlist_entries.specs.Netlists.{NetReactedMany}
+use Rattle.netlist_entries.proofs.react_file.Goals as goal
+
+pub returns : goal.returns
+returns c =
+    once_of (NetReactedMany (read_file _)) c.write.ensures c.react_file_many-c.ensures c.read.ensures c.reaction_of.ensures

@@ -1,0 +1,16 @@
+-- At each event the values settle, show the outputs and give the next state.
+use Prim.Native.Nat.{◌-◌}
+use mathlib.Core.Path.{◌≡◌}
+use lib.ListN.{length}
+use Rattle.bits.specs.Bits.{whole}
+use Rattle.cells.specs.Words.{cells_of}
+use Rattle.run.specs.React.{Clock}
+use Rattle.run.proofs.Going.{Upto}
+use Rattle.run.proofs.clocks.Given as goal
+
+abbrev pub invariant-loop-j : goal.invariant-loop-j
+invariant-loop-j l =
+    Upto (Clock l.i l.o (cells_of l.cells)) (whole l.initial.last) l.events l.initial.signals l.initial.states l.signals l.states (whole l.last) l.j × (length l.values ≡ length (cells_of l.cells))
+
+abbrev pub decreases-loop-j : goal.decreases-loop-j
+decreases-loop-j l = l.n - l.j
