@@ -1,12 +1,14 @@
 // Answers questions, a line each, on standard output, a line each. A line that is no question answers `bad line`. `questions::answer_line` has each answer as its
 // contract; reading and writing are the system's.
+#![tactic(auto)]
+
 mod numbers;
-mod order;
+mod ordering;
 mod output;
 mod questions;
 mod words;
 
-use libc::{STDIN_FILENO, STDOUT_FILENO};
+use std::io::{Read, Write};
 use texts::{Found, Source};
 
 // The longest question, and one byte more: a line that is cut there is no question all the same.
@@ -19,31 +21,38 @@ const READ: usize = 1024;
 const OUT: usize = 16512;
 
 // The bytes at hand after a line, or after a read where one is wanted, and whether to go on.
-#[derive(Drop)]
+#[derive(Clone, Copy)]
 struct After {
     source: Source,
     more: bool,
 }
 
-fn print_answer(line: &[u8]) {
+// An answer that cannot be written is lost.
+fn print_answer<W: Write>(output: &mut W, line: &[u8]) {
     let mut out = [0u8; OUT];
     let n = questions::answer_line(line, &mut out);
-    io::write_all(STDOUT_FILENO, &out[..n]);
+    let _ = output.write_all(&out[..n]);
 }
 
 // Answers one line, or reads.
-fn turn(s: Source, bytes: &mut [u8], line: &mut [u8]) -> After {
+fn turn<R: Read, W: Write>(
+    input: &mut R,
+    output: &mut W,
+    s: Source,
+    bytes: &mut [u8],
+    line: &mut [u8],
+) -> After {
     let next = texts::next_line(s, bytes, line);
     let source = next.source;
     let found = next.found;
     match found {
         Found::Line => {
             let n = next.len;
-            print_answer(&line[..n]);
+            print_answer(output, &line[..n]);
             After { source, more: true }
         }
         Found::More => After {
-            source: texts::refill(STDIN_FILENO, bytes, source),
+            source: texts::refill(input, bytes, source),
             more: true,
         },
         Found::End => After {
@@ -53,11 +62,11 @@ fn turn(s: Source, bytes: &mut [u8], line: &mut [u8]) -> After {
     }
 }
 
-fn run(bytes: &mut [u8], line: &mut [u8]) {
+fn run<R: Read, W: Write>(input: &mut R, output: &mut W, bytes: &mut [u8], line: &mut [u8]) {
     let mut source = texts::nothing_read();
     let mut turns = u64::MAX;
     while turns > 0 {
-        let t = turn(source, bytes, line);
+        let t = turn(input, output, source, bytes, line);
         if !t.more {
             return;
         }
@@ -66,8 +75,8 @@ fn run(bytes: &mut [u8], line: &mut [u8]) {
     }
 }
 
-fn main() {
+fn main(rt: HostRuntime) {
     let mut bytes = [0u8; READ];
     let mut line = [0u8; LINE];
-    run(&mut bytes, &mut line);
+    run(&mut rt.stdin(), &mut rt.stdout(), &mut bytes, &mut line);
 }

@@ -15,7 +15,7 @@ pub const SIZE: usize = Table::PINS + 2;
 pub const ROOM: usize = 16385;
 
 // Whether a text is tables, and how many numbers they have.
-#[derive(Drop)]
+#[derive(Clone, Copy)]
 pub struct Numbers {
     pub good: bool,
     pub len: usize,

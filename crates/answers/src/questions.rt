@@ -8,7 +8,7 @@ ghost use Rattle.answers.specs.Questions as Questions;
 ghost use Rattle.answers.specs.Answering.{Lends, longest_answer, Told};
 ghost use Rattle.answers.specs.Code.{Says, FileSaid};
 
-use crate::{numbers, order, output, words};
+use crate::{numbers, ordering, output, words};
 use compiler::Compiled;
 use krankovel::Bits;
 use netlists::FileWritten;
@@ -196,7 +196,7 @@ fn answer_question(word: &[u8], text: &[u8], out: &mut [u8]) -> usize
         return answer_rest(text, out);
     }
     if texts::same(word, b"order") {
-        return order::answer(text, out);
+        return ordering::answer(text, out);
     }
     answer_about(word, text, out)
 }

@@ -1,5 +1,7 @@
 // Texts: numbers, bytes in hex and fixed strings are written here, and numbers, bytes and lines are read. What is written goes into a lent buffer, from a place
 // on; each function answers the place past it.
+#![tactic(auto)]
+
 mod digits;
 mod lines;
 mod put;
@@ -13,21 +15,21 @@ pub use words::same;
 use words::within;
 
 // A number, or a text that is none.
-#[derive(Drop)]
+#[derive(Clone, Copy)]
 pub enum Value {
     Is(u64),
     Bad,
 }
 
 // Whether a text is a set in hex, and the set; none where it is not.
-#[derive(Drop)]
+#[derive(Clone, Copy)]
 pub struct SetRead {
     pub good: bool,
     pub set: Bits,
 }
 
 // Whether a text is bytes in hex, and how many; none where it is not.
-#[derive(Drop)]
+#[derive(Clone, Copy)]
 pub struct Hex {
     pub good: bool,
     pub len: usize,
@@ -35,7 +37,7 @@ pub struct Hex {
 
 // The bytes that are read. Those that the last read brought are the first `end` of a lent slice, and the next to be used is at `from`; `held` is the length of
 // what is kept of a line that has not ended, and `ended` says that no read brings more.
-#[derive(Drop)]
+#[derive(Clone, Copy)]
 pub struct Source {
     pub from: usize,
     pub end: usize,
@@ -44,7 +46,7 @@ pub struct Source {
 }
 
 // A line is there; another read is wanted; there is no line any more.
-#[derive(Drop)]
+#[derive(Clone, Copy)]
 pub enum Found {
     Line,
     More,
@@ -52,7 +54,7 @@ pub enum Found {
 }
 
 // What was found, how much of the line is in the buffer, and the bytes behind it.
-#[derive(Drop)]
+#[derive(Clone, Copy)]
 pub struct Next {
     pub found: Found,
     pub len: usize,

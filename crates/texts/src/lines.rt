@@ -1,11 +1,13 @@
-// Lines, taken out of the bytes that reads bring. A line depends on these bytes alone, and not on where a read ends. What `libc::read` puts into the lent bytes
-// no contract says; that is all that is left open here.
-ghost use Rattle.std.specs.Prelude.{◌≡◌, true, false, ◌≤◌, ◌<◌, min, eqb, length};
+// Lines, taken out of the bytes that reads bring. A line depends on these bytes alone, and not on where a read ends. Which bytes standard input brings no
+// contract says; that is all that is left open here.
+ghost use Rattle.std.specs.Prelude.{◌≡◌, true, false, ◌≤◌, ◌<◌, min, eqb, length, take};
+ghost use Rattle.std.specs.Io.KnownBytes.{Consumes};
 ghost use Rattle.io.specs.Counts.{IsPrefixLen};
-ghost use Rattle.texts.specs.Reads.{onward, NewlineAt, NextLine, Refilled};
+ghost use Rattle.texts.specs.Reads.{brought, onward, NewlineAt, NextLine, Refilled};
 ghost use Rattle.texts.specs.Reads as Reads;
 
 use crate::{Found, Next, Source};
+use std::io::Read;
 
 // Before the first read.
 pub fn nothing_read() -> Source
@@ -31,12 +33,23 @@ pub fn all_read(input: &[u8]) -> Source
     }
 }
 
-// One read. The bytes that were at hand are used up.
-pub fn refill(fd: i32, bytes: &mut [u8], s: Source) -> Source
-    ensures { Refilled s result bytes.new }
+// How many bytes one read brings. A read that fails brings none.
+fn read_once<R: Read>(input: &mut R, bytes: &mut [u8]) -> usize
+    ensures prefix_len { IsPrefixLen result bytes.new }
+    ensures consumes { Consumes (R.remaining input.old) (R.remaining input.new) (take result bytes.new) }
 {
-    let got = libc::read(fd, bytes);
-    let end = io::count(got, bytes);
+    match input.read(bytes) {
+        Ok(n) => n,
+        Err(_) => 0,
+    }
+}
+
+// One read. The bytes that were at hand are used up. The input ends where a read brings none, or fails.
+pub fn refill<R: Read>(input: &mut R, bytes: &mut [u8], s: Source) -> Source
+    ensures refilled { Refilled s result bytes.new }
+    ensures consumes { Consumes (R.remaining input.old) (R.remaining input.new) (brought result bytes.new) }
+{
+    let end = read_once(input, bytes);
     Source {
         from: 0,
         end,

@@ -1,4 +1,6 @@
 // Many traces from one input. A line `--`, which is no hex, ends one and is printed again; each begins anew.
-fn main() {
-    tracing::serve(true);
+#![tactic(auto)]
+
+fn main(rt: HostRuntime) {
+    tracing::serve(&mut rt.stdin(), &mut rt.stdout(), true);
 }

@@ -9,7 +9,7 @@ ghost use Rattle.tracing.specs.Output.{Answered};
 ghost use Rattle.tracing.specs.Feeds.{turn_of, goes_on, Buffers, Feeds, ReadAnswered};
 
 use crate::{After, Awaited, Fed, LINE_ROOM, Trace};
-use libc::{STDIN_FILENO, STDOUT_FILENO};
+use std::io::{Read, Write};
 use texts::{Found, Source};
 
 // The bytes of one read, and the room for what their lines print.
@@ -130,8 +130,10 @@ pub fn traced(input: &[u8], out: &mut [u8]) -> usize
     fed.len
 }
 
-// Reads once, answers what was read, and writes the answers.
-fn answer_read(
+// Reads once, answers what was read, and writes the answers out. Those that cannot be written are lost.
+fn answer_read<R: Read, W: Write>(
+    input: &mut R,
+    output: &mut W,
     many: bool,
     trace: Trace,
     s: Source,
@@ -146,14 +148,17 @@ fn answer_read(
     ensures read_answered { ReadAnswered many trace s result bytes.new line.old line.new rows.old rows.new
         statics.old statics.new out.old out.new }
 {
-    let source = texts::refill(STDIN_FILENO, bytes, s);
+    let source = texts::refill(input, bytes, s);
     let fed = feed(many, trace, source, bytes, line, rows, statics, out);
     let n = fed.len;
-    io::write_all(STDOUT_FILENO, &out[..n]);
+    let _ = output.write_all(&out[..n]);
+    let _ = output.flush();
     fed
 }
 
-fn answer_reads(
+fn answer_reads<R: Read, W: Write>(
+    input: &mut R,
+    output: &mut W,
     many: bool,
     bytes: &mut [u8],
     line: &mut [u8],
@@ -167,7 +172,9 @@ fn answer_reads(
     let mut source = texts::nothing_read();
     let mut turns = u64::MAX;
     while turns > 0 {
-        let fed = answer_read(many, trace, source, bytes, line, rows, statics, out);
+        let fed = answer_read(
+            input, output, many, trace, source, bytes, line, rows, statics, out,
+        );
         if !fed.more {
             return;
         }
@@ -178,13 +185,15 @@ fn answer_reads(
 }
 
 // The program: one trace, or many.
-pub fn serve(many: bool) {
+pub fn serve<R: Read, W: Write>(input: &mut R, output: &mut W, many: bool) {
     let mut bytes = [0u8; READ];
     let mut line = [0u8; LINE_ROOM];
     let mut rows = [0u64; limits::MAX_STATEMENTS];
     let mut statics = [0u64; limits::MAX_STATEMENTS];
     let mut out = [0u8; OUT];
     answer_reads(
+        input,
+        output,
         many,
         &mut bytes,
         &mut line,

@@ -1,6 +1,8 @@
 // A trace: a sheet, and the instants of its reactions. One line's step, from state and line to state and text; all lines that reads bring; the whole output of
 // an input; and the program, of which no contract says more than that it is safe, since its bytes come from and go to the system: it reads, answers what was
 // read, writes, and so on.
+#![tactic(auto)]
+
 mod feeding;
 mod text;
 
@@ -32,7 +34,7 @@ const SHEET_ROOM: usize = SHEET_DIGITS / 2;
 pub const LINE_ROOM: usize = SHEET_DIGITS + 1;
 
 // What is awaited: the sheet's line, an event's, or nothing more.
-#[derive(Drop)]
+#[derive(Clone, Copy)]
 pub enum Awaited {
     Sheet,
     Event,
@@ -41,7 +43,7 @@ pub enum Awaited {
 
 // What is awaited and, once a sheet was accepted, the program that was made ready of it, its outputs, the state and the instants counted. The program's rows and
 // static sets stand beside it, in lent columns.
-#[derive(Drop)]
+#[derive(Clone, Copy)]
 pub struct Trace {
     pub awaited: Awaited,
     pub program: Program,
@@ -51,14 +53,14 @@ pub struct Trace {
 }
 
 // The state after a line, and the place past the text that it prints.
-#[derive(Drop)]
+#[derive(Clone, Copy)]
 pub struct After {
     pub trace: Trace,
     pub end: usize,
 }
 
 // The state after the lines of the bytes at hand, these bytes as they are left, the length of the text that the lines print, and whether to go on.
-#[derive(Drop)]
+#[derive(Clone, Copy)]
 pub struct Fed {
     pub trace: Trace,
     pub source: Source,
