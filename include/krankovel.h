@@ -1,8 +1,8 @@
 /* Krankovel for C: Pure Esterel sheets are checked, compiled to netlists and run; netlists are checked, run, read and written; tables of a packer are reordered,
    and its covers checked.
 
-   Build:    rt staticlib krankovel_c        makes target/staticlib/libkrankovel_c.a (x86-64 Linux)
-   Link:     cc PROGRAM.c -I include target/staticlib/libkrankovel_c.a
+   Build:    (cd crates/krankovel_c && rt lib)   makes crates/krankovel_c/out/libkrankovel_c.a (x86-64 Linux)
+   Link:     cc PROGRAM.c -I include crates/krankovel_c/out/libkrankovel_c.a
 
    Whatever is handed in is answered, or refused with a number and a place (below). Nothing has to be tested before, and each entry is proved to answer what its
    contract in crates/krankovel_c says, for every argument. No entry allocates, keeps anything between two calls, or calls the system: any number of threads may
