@@ -18,7 +18,6 @@ use Rattle.rules.specs.Rules.{Signals}
 use Rattle.rules.specs.States.{State}
 use Rattle.cells.specs.declared.Cell.{Cell}
 use Rattle.cells.specs.declared.Gate.TheVariants.{Or, And, Butnot}
-use Rattle.cells.specs.declared.Cell.TheVariants.{Gate}
 use Rattle.cells.specs.Cells.{low, is_low, cell_at}
 use Rattle.cells.specs.Values.{before, value}
 use Rattle.cells.specs.declared.Gate as gate

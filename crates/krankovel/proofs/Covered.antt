@@ -9,7 +9,7 @@ use Rattle.number.specs.declared.Fault.{Fault}
 use Rattle.number.specs.declared.Refusal.TheVariants.{Cover}
 use Rattle.number.specs.Counts.{signal_no}
 use Rattle.number.specs.Refusals.{fault}
-use Rattle.bits.specs.Bits.{has, signals_in, words, width, sets_in}
+use Rattle.bits.specs.Bits.{has, signals_in, width, sets_in}
 use Rattle.rules.specs.States.{fits}
 use Rattle.sheet.specs.Read.{Sheet, SheetOutcome, sheet, faulty as no_sheet}
 use Rattle.cells.specs.Netlist.{Netlist, WellFormed}
@@ -35,7 +35,7 @@ use Rattle.giving.proofs.Reordered.{stays_right, stays_wrong}
 use Rattle.verdicts.specs.declared.Answer.{Answer}
 use Rattle.verdicts.specs.declared.Course.{Course}
 use Rattle.verdicts.specs.declared.Reaction.{Reaction}
-use Rattle.verdicts.specs.Answers.{Verdict, passes, stops, verdict, answer_of, refusal, acceptance, with_state, reaction_of}
+use Rattle.verdicts.specs.Answers.{Verdict, passes, stops, answer_of, refusal, acceptance, with_state, reaction_of}
 use Rattle.verdicts.specs.Runs.{Asked, Told, Runs as RunsOn, one, Once}
 use Rattle.verdicts.proofs.Running.{ran_on}
 use Rattle.sheet_entries.specs.Sheets.{sheet_verdict, sheet_accepted, Checked}

@@ -21,7 +21,7 @@ use Rattle.compiler.specs.Check.{Checks, refused, cyclic, Accepted}
 use Rattle.compiler.proofs.Exists as sheets
 use Rattle.agreement.proofs.WordRuns.{fresh_fits}
 use Rattle.verdicts.specs.declared.Answer.{Answer}
-use Rattle.verdicts.specs.Answers.{answer_of, refusal, acceptance}
+use Rattle.verdicts.specs.Answers.{answer_of, acceptance}
 use Rattle.sheet_entries.specs.Sheets.{sheet_verdict, sheet_accepted, Checked}
 use Rattle.sheet_entries.proofs.OneSheetAnswer.{one_checked}
 use Rattle.netlist_entries.specs.Netlists.{net_verdict, net_accepted, NetChecked}

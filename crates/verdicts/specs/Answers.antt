@@ -1,5 +1,5 @@
 -- "Numbers returned": the answers of the public entries.
-use Rattle.std.specs.Prelude.{Bool, ◌&&◌, List, ℕ, leb, length}
+use Rattle.std.specs.Prelude.{Bool, List, ℕ}
 use Rattle.std.proofs.lemmas.List.Edits.{sets}
 use Rattle.number.specs.declared.Fault.{Fault}
 use Rattle.number.specs.declared.Refusal.TheVariants.{Event, State, Buffer}

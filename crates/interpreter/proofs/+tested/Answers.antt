@@ -2,7 +2,6 @@
 use native.Mathlib.Omega.{arith}
 use Rattle.rules.proofs.Walks.{run_within, run_number, run_one, run_left, run_right, right_further}
 use Rattle.interpreter.proofs.Asking.{tested_leaf, tested_one, tested_two}
-use Prim.Native.Nat.{◌-◌}
 use Rattle.interpreter.proofs.+tested.Goals as goal
 
 pub row_at-row-requires : goal.row_at-row-requires

@@ -1,5 +1,5 @@
 -- After each round E is what the rounds make. As long as what is asked for changes E does, so they do not repeat yet; when that stays, E agrees.
-use Prim.Native.Nat.{◌+◌, ◌-◌, ◌<◌}
+use Prim.Native.Nat.{◌+◌, ◌<◌}
 use native.Mathlib.Omega.{arith}
 use Rattle.limits.specs.Limits.{max_signals}
 use Rattle.interpreter.proofs.Settled.{Given, Joined, reached_first, agrees_here, before_limit, reached_next}

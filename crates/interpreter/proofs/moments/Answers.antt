@@ -1,5 +1,5 @@
 -- At each event the rules are applied until E agrees, and the state after it fits again.
-use Prim.Native.Nat.{ℕ, ◌*◌, ◌/◌, ◌-◌, ◌<◌}
+use Prim.Native.Nat.{ℕ, ◌*◌, ◌/◌, ◌<◌}
 use mathlib.Core.Path.{◌≡◌, sym, ◌∙◌}
 use mathlib.Core.List.{List}
 use native.Mathlib.Omega.{arith}

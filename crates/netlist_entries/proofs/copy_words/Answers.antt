@@ -1,5 +1,4 @@
 -- What is left to copy completes the slice.
-use Prim.Native.Nat.{◌-◌}
 use native.Mathlib.Omega.{arith}
 use Rattle.netlist_entries.proofs.CellEntries.{copy_begins, copy_more, copy_ends}
 use Rattle.netlist_entries.proofs.copy_words.Goals as goal

@@ -1,6 +1,6 @@
 -- `moved_pins` meets its contract: with each turn one pin more is carried.
 use mathlib.Core.Path.{refl, ap}
-use Prim.Native.Nat.{ℕ, ◌-◌, ◌<◌}
+use Prim.Native.Nat.{ℕ, ◌<◌}
 use mathlib.Core.List.{List}
 use native.Mathlib.Omega.{arith}
 use lib.ListN.{get_or}

@@ -1,5 +1,5 @@
 -- `moved_truth` meets its contract: with each turn one bit more stands at its place.
-use Prim.Native.Nat.{◌-◌, ◌<◌}
+use Prim.Native.Nat.{◌<◌}
 use native.Mathlib.Omega.{arith}
 use lib.ListN.{get_or}
 use Rattle.tables.specs.Answering.{settings}
