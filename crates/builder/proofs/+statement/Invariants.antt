@@ -1,5 +1,3 @@
--- The walk builds whichever statement stands at the row: it is a leaf, or has one or two parts, which the calls of itself build. The measure is the
--- number of rows that are left.
 use lib.ListN.{length}
 use Rattle.number.specs.Counts.{of_stmt}
 use Prim.Native.Nat.{◌-◌}

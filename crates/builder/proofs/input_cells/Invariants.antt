@@ -1,4 +1,3 @@
--- The loop writes one input after another; its invariant says that those left, once written, make the whole.
 use Prim.Native.Nat.{◌+◌, ◌-◌, ◌<◌}
 use Rattle.limits.specs.Limits.{max_signals}
 use Rattle.builder.proofs.Ends.{InputLoop}

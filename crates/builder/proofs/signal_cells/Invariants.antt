@@ -1,4 +1,3 @@
--- The loop writes one signal's cell after another; its invariant says that those left, once written, make the whole.
 use Prim.Native.Nat.{◌-◌, ◌≤◌}
 use mathlib.Core.Path.{◌≡◌}
 use lib.ListN.{length}

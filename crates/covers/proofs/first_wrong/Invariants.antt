@@ -1,4 +1,3 @@
--- `first_wrong` meets its contract: table by table, each with marks two higher than those of the one before.
 use Prim.Native.Nat.{ℕ, ◌*◌, ◌-◌, ◌<◌, ◌≤◌}
 use mathlib.Core.Path.{◌≡◌}
 use lib.ListN.{length}

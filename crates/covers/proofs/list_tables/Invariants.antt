@@ -1,4 +1,3 @@
--- `list_tables` meets its contract: with each turn one table more is listed.
 use Prim.Native.Nat.{◌-◌, ◌≤◌}
 use mathlib.Core.Path.{◌≡◌}
 use lib.ListN.{length}

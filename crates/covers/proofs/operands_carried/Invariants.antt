@@ -1,4 +1,3 @@
--- `operands_carried` meets its contract: cell by cell.
 use Prim.Native.Nat.{ℕ, ◌-◌, ◌<◌, ◌≤◌}
 use mathlib.Core.List.{List}
 use lib.ListN.{length}

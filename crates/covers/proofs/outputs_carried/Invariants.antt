@@ -1,4 +1,3 @@
--- `outputs_carried` meets its contract: output by output.
 use Prim.Native.Nat.{ℕ, suc, ◌+◌, ◌-◌, ◌<◌, ◌≤◌}
 use mathlib.Core.List.{List}
 use Rattle.number.specs.Counts.{cell_no}

@@ -1,4 +1,3 @@
--- `pins_at` meets its contract: with each turn one pin more is read.
 use Prim.Native.Nat.{◌-◌}
 use Rattle.tables.specs.Answering as Answering
 use Rattle.covers.proofs.Reading.{PinsRead}

@@ -1,4 +1,3 @@
--- `pins_carried` meets its contract: pin by pin.
 use Prim.Native.Nat.{ℕ, ◌-◌, ◌<◌, ◌≤◌}
 use mathlib.Core.List.{List}
 use Rattle.tables.specs.Answering.{pins}

@@ -1,4 +1,3 @@
--- `pins_met` meets its contract: pin by pin.
 use Prim.Native.Nat.{ℕ, ◌-◌, ◌<◌, ◌≤◌}
 use Rattle.tables.specs.Answering.{pins}
 use Rattle.cells.specs.Words.{cells_of}

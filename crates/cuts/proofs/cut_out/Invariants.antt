@@ -1,4 +1,3 @@
--- `cut_out` meets its contract: the way begins at the table's cell, and each turn is a visit.
 use mathlib.Core.Path.{◌≡◌}
 use mathlib.Core.List.{List}
 use lib.ListN.{length}

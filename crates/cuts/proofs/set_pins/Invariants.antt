@@ -1,4 +1,3 @@
--- `set_pins` meets its contract: with each turn one pin more is set.
 use Prim.Native.Nat.{◌-◌, ◌≤◌}
 use mathlib.Core.Path.{◌≡◌}
 use lib.ListN.{length}

@@ -1,4 +1,3 @@
--- What is left to read decides, from each cell on.
 use Rattle.files.proofs.Reading.{Reading}
 use Prim.Native.Nat.{◌-◌}
 use Rattle.files.proofs.read_cells.Given as goal

@@ -1,4 +1,3 @@
--- `or_row` meets its contract: what is made before code j and what is left to make are the whole.
 use Prim.Native.Nat.{◌-◌}
 use Rattle.limits.specs.Limits.{max_codes}
 use Rattle.gates.proofs.OrRow.{Rowing}

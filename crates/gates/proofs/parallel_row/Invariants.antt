@@ -1,4 +1,3 @@
--- `parallel_row` meets its contract: the loop has made the codes from j on, and behind it come codes 1 and 0.
 use Rattle.bits.specs.Bits.{has}
 use Rattle.gates.proofs.ParallelRow.{Looping}
 use Rattle.gates.proofs.parallel_row.Given as goal

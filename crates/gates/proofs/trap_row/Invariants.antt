@@ -1,4 +1,3 @@
--- `trap_row` meets its contract: the codes below j are the trap's.
 use Prim.Native.Nat.{◌-◌}
 use Rattle.limits.specs.Limits.{max_codes}
 use Rattle.gates.specs.Rows.{code}

@@ -1,4 +1,3 @@
--- By the row's head: what the statement asks for is its own signal and what its parts ask for. The rows from n on become fewer.
 use lib.ListN.{length}
 use Rattle.number.specs.Counts.{of_stmt}
 use Prim.Native.Nat.{◌-◌}

@@ -1,4 +1,3 @@
--- After each round E is what the rounds make. As long as what is asked for changes E does, so they do not repeat yet; when that stays, E agrees.
 use Prim.Native.Nat.{ℕ, ◌-◌}
 use Rattle.limits.specs.Limits.{max_signals}
 use Rattle.bits.specs.Bits.{whole}

@@ -1,4 +1,3 @@
--- At each event the rules are applied until E agrees, and the state after it fits again.
 use Prim.Native.Nat.{◌-◌}
 use Rattle.bits.specs.Bits.{whole}
 use Rattle.interpreter.proofs.Following.{Followed}

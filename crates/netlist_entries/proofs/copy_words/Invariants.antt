@@ -1,4 +1,3 @@
--- What is left to copy completes the slice.
 use Prim.Native.Nat.{◌-◌}
 use lib.ListN.{length}
 use Rattle.netlist_entries.proofs.CellEntries.{Copying}

@@ -1,4 +1,3 @@
--- The words that are left decide, from each cell on.
 use Rattle.netlists.proofs.Words.{Judging}
 use lib.ListN.{length}
 use Prim.Native.Nat.{◌-◌}

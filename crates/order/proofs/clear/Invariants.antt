@@ -1,4 +1,3 @@
--- `clear` meets its contract: the marks below i are 0.
 use Prim.Native.Nat.{ℕ, ◌≤◌, ◌<◌, ◌-◌}
 use mathlib.Core.Path.{◌≡◌}
 use lib.ListN.{length, get_or}

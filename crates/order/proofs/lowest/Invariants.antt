@@ -1,4 +1,3 @@
--- `lowest` meets its contract: no cell below `low` is on a cycle, so the loop ends at the lowest one, if there is one at all.
 use Prim.Native.Nat.{◌-◌}
 use mathlib.Core.Path.{◌≡◌}
 use lib.ListN.{length}

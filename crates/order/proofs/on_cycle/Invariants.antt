@@ -1,5 +1,3 @@
--- `on_cycle` meets its contract: when nothing waits, the cells seen are those that c reaches. A turn of the loop takes one cell from those that wait or are
--- not seen.
 use Prim.Native.Nat.{◌+◌}
 use mathlib.Core.Path.{◌≡◌}
 use lib.ListN.{length}

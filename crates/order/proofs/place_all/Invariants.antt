@@ -1,4 +1,3 @@
--- `place_all` meets its contract: each cell below i is placed. At the end that is every cell.
 use Prim.Native.Nat.{◌-◌}
 use mathlib.Core.Path.{◌≡◌}
 use lib.ListN.{length}

@@ -1,4 +1,3 @@
--- `search` meets its contract: each step goes on with the search that began at x, until the stack is empty.
 use mathlib.Core.Path.{◌≡◌}
 use lib.ListN.{length}
 use Rattle.cells.specs.Words.{cells_of}

@@ -1,5 +1,3 @@
--- By the row's head: each return is the rule of its kind, by what the walks of the parts ensure. The rows from n on become fewer, and a walk of the parts
--- comes between that of the statement and theirs.
 use lib.ListN.{length}
 use Rattle.number.specs.Counts.{of_stmt}
 use Prim.Native.Nat.{◌-◌, ◌*◌}

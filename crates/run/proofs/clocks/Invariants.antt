@@ -1,4 +1,3 @@
--- At each event the values settle, show the outputs and give the next state.
 use Prim.Native.Nat.{◌-◌}
 use mathlib.Core.Path.{◌≡◌}
 use lib.ListN.{length}

@@ -1,4 +1,3 @@
--- The events passed are good, so what is asked of all is asked of those that are left.
 use Prim.Native.Nat.{◌-◌}
 use mathlib.Core.Path.{◌≡◌}
 use lib.ListN.{drop}

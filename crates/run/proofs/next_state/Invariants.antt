@@ -1,4 +1,3 @@
--- `next_state` meets its contract: bit by bit.
 use Prim.Native.Nat.{◌-◌}
 use lib.ListN.{length}
 use Rattle.bits.specs.Bits.{whole}

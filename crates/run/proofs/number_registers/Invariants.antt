@@ -1,4 +1,3 @@
--- `number_registers` meets its contract: cell by cell, with the count of the registers passed.
 use Prim.Native.Nat.{◌-◌}
 use mathlib.Core.Path.{◌≡◌}
 use lib.ListN.{length}

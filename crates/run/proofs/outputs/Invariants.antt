@@ -1,4 +1,3 @@
--- `outputs` meets its contract: signal by signal, from 1+I on.
 use Prim.Native.Nat.{◌+◌, ◌-◌}
 use Rattle.bits.specs.Bits.{whole}
 use Rattle.run.specs.React.{nets_in}

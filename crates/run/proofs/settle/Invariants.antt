@@ -1,4 +1,3 @@
--- `settle` meets its contract: each cell in its turn, after those that it needs.
 use Prim.Native.Nat.{◌-◌}
 use lib.ListN.{length}
 use Rattle.bits.specs.Bits.{has, signals_in, whole}

@@ -1,5 +1,3 @@
--- `fill` meets its contract: at each head one law says what its parts' words make, and what the column then holds. The rows that are left
--- fall.
 use Prim.Native.Nat.{◌-◌}
 use lib.ListN.{length}
 use Rattle.number.specs.Counts.{of_stmt}

@@ -1,4 +1,3 @@
--- `first_led` meets its contract: at each head one law says which answer stands first. The rows that are left fall.
 use Prim.Native.Nat.{◌-◌}
 use lib.ListN.{length}
 use Rattle.number.specs.Counts.{of_stmt}

@@ -1,4 +1,3 @@
--- Each way out answers what its law in `Answers` says. The measure is the number of levels that are left.
 use Rattle.sheet.proofs.+read_stmt.Given as goal
 
 abbrev pub decreases-read_stmt : goal.decreases-read_stmt

@@ -1,4 +1,3 @@
--- `moved_pins` meets its contract: with each turn one pin more is carried.
 use Prim.Native.Nat.{◌-◌}
 use Rattle.tables.specs.Answering.{pins}
 use Rattle.tables.proofs.Moving.{Carried}

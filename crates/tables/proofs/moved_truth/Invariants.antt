@@ -1,4 +1,3 @@
--- `moved_truth` meets its contract: with each turn one bit more stands at its place.
 use Prim.Native.Nat.{◌-◌}
 use Rattle.tables.specs.Answering.{settings}
 use Rattle.tables.proofs.Moving.{Placed}

@@ -1,4 +1,3 @@
--- The loop's invariant: the outputs below s are in the set.
 use native.Mathlib.Omega.{arith}
 use Rattle.tracing.proofs.Outputs.{none_added, one_added, all_added, wide_added}
 use borrow.Author.Rules.{rules}

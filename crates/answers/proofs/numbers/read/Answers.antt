@@ -1,4 +1,3 @@
--- The loop's invariant: the numbers passed are read.
 use Prim.Native.Nat.{◌+◌, ◌≤◌, ◌<◌}
 use mathlib.Core.Path.{sym, ◌∙◌}
 use native.Mathlib.Omega.{arith}

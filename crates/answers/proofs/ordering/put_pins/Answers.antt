@@ -1,4 +1,3 @@
--- The loop's invariant: the pieces of the cells passed are put.
 use mathlib.Core.List.{map}
 use native.Mathlib.Omega.{arith}
 use lib.ListN.{length-map, get_or-map}

@@ -1,4 +1,3 @@
--- The loop's invariant: it has not passed the end, and the part ends no earlier.
 use native.Mathlib.Omega.{arith}
 use Rattle.io.proofs.Counting.{prefix_len_of_le}
 use Rattle.answers.proofs.Blanks.{end_sign, end_later, end_text}

@@ -1,4 +1,3 @@
--- Word by word: below 64 i + k is below n where k is below n less 64 i.
 use Prim.Native.Nat.{ℕ, ◌*◌, ◌-◌, ◌<◌, ◌≤◌}
 use mathlib.Core.Path.{◌≡◌}
 use lib.Dec.{ltb}

@@ -1,4 +1,3 @@
--- Word by word, each asked for what of the numbers it has.
 use Prim.Native.Nat.{◌+◌, ◌-◌, ◌≤◌}
 use Rattle.bits.specs.Bits.{words, whole}
 use Rattle.bits.proofs.Making.{Off}

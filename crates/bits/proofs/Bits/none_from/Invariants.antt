@@ -1,4 +1,3 @@
--- Word by word, from k less 64 i on.
 use Prim.Native.Nat.{◌-◌, ◌≤◌}
 use Rattle.bits.specs.Bits.{words, width, whole}
 use Rattle.bits.proofs.Making.{Off}

@@ -1,4 +1,3 @@
--- Word by word.
 use Prim.Native.Nat.{◌-◌, ◌≤◌}
 use Rattle.bits.specs.Bits.{words}
 use Rattle.bits.proofs.Making.{Alike}

@@ -1,4 +1,3 @@
--- Word by word, and the words of the set's number are its own.
 use Prim.Native.Nat.{◌*◌, ◌-◌, ◌≤◌}
 use mathlib.Core.Path.{◌≡◌}
 use lib.ListN.{length}

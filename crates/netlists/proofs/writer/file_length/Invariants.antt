@@ -1,4 +1,3 @@
--- What is left to add up completes the length.
 use Rattle.netlists.proofs.Laying.{Measuring}
 use lib.ListN.{length as len}
 use Prim.Native.Nat.{◌-◌}

@@ -1,4 +1,3 @@
--- What is left to write completes the file.
 use Rattle.netlists.proofs.Laying.{Laying}
 use lib.ListN.{length}
 use Prim.Native.Nat.{◌-◌}

@@ -1,4 +1,3 @@
--- The loop's invariant: the bytes of the pairs passed are there, and those of the digits left follow.
 use mathlib.Core.Path.{refl}
 use native.Mathlib.Omega.{arith}
 use lib.ListN.{length-set}

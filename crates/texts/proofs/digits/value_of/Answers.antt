@@ -1,4 +1,3 @@
--- The loop's invariant: the digits passed are in the value, so that value and the digits left give what the whole text gives.
 use mathlib.Core.Path.{◌≡◌, refl, sym, ◌∙◌}
 use native.Mathlib.Omega.{arith}
 use lib.ListN.{get_or}

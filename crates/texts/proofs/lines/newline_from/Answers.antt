@@ -1,4 +1,3 @@
--- The loop's invariant: no newline was passed.
 use native.Mathlib.Omega.{arith}
 use Rattle.texts.proofs.Reading.{none_passed, byte_passed, newline_found, end_found}
 use borrow.Author.Rules.{rules}

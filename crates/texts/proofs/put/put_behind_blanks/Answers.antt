@@ -1,4 +1,3 @@
--- The loop's invariant: the pieces of the entries passed are put.
 use native.Mathlib.Omega.{arith}
 use Rattle.texts.specs.Written.{behind_blanks}
 use Rattle.texts.proofs.Putting.{blanks_join, pieces_none, pieces_next, pieces_done}

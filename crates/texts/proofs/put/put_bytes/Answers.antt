@@ -1,4 +1,3 @@
--- The loop's invariant: the pieces of the entries passed are put.
 use native.Mathlib.Omega.{arith}
 use Rattle.texts.proofs.Putting.{itself, itself_joins, pieces_none, pieces_next, pieces_done}
 use borrow.Author.Rules.{rules}

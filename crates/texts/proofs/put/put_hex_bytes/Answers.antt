@@ -1,4 +1,3 @@
--- The loop's invariant: the pieces of the entries passed are put.
 use native.Mathlib.Omega.{arith}
 use Rattle.texts.specs.Written.{in_hex}
 use Rattle.texts.proofs.Putting.{hex_joins, pieces_none, pieces_next, pieces_done}

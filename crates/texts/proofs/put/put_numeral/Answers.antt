@@ -1,4 +1,3 @@
--- The loop's invariant: the digits from i on, behind the numeral of what is left, are the number's. The last digit is put when what is left is below the base.
 use native.Mathlib.Nat.{mod-lt}
 use native.Mathlib.Omega.{arith}
 use lib.ListN.{length-set}

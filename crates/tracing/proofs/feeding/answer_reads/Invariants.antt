@@ -1,4 +1,3 @@
--- The loop ends since its turns are counted; the buffers keep their lengths, and the trace stands for some state.
 use mathlib.Core.Path.{◌≡◌}
 use lib.ListN.{length}
 use Rattle.tracing.specs.Stands.{Sound}

@@ -1,5 +1,3 @@
--- The loop's invariant: the text of the lines answered is there, and the others are those of the bytes still at hand. With each line less
--- is at hand.
 use mathlib.Core.Logic.{inl, inr}
 use native.Mathlib.Omega.{arith}
 use Rattle.texts.proofs.Taking.{fewer}
