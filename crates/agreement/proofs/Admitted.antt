@@ -6,17 +6,17 @@ use Rattle.number.specs.Counts.{stmt_no}
 use Rattle.sheet.specs.Read.{Sheet}
 use Rattle.sheet.specs.Form.{Proper}
 use Rattle.sheet.proofs.ProperRead.{proper}
-use Rattle.sets.specs.declared.Found.TheVariants.{Clear}
 use Rattle.sets.specs.Faults.{instant}
 use Rattle.builder.specs.Netlist.{sheet_netlist}
 use Rattle.order.specs.Paths.{Ordered}
 use Rattle.compiler.specs.Check.{Accepted, accepted}
 use Rattle.compiler.proofs.Passing.{judged_read}
 use Rattle.agreement.proofs.Restarts.{NoRestart, no_restart}
+use Rattle.std.specs.Prelude.{None}
 
 pub record Admitted (w : Sheet) : Type 0 where
   pub proper : Proper w.inputs w.outputs w.root
-  pub no_instant : instant (stmt_no 0) w.root ≡ Clear
+  pub no_instant : instant (stmt_no 0) w.root ≡ None
   pub no_twice : NoRestart w.root
   pub order : List ℕ
   pub ordered : Ordered (sheet_netlist w) order

@@ -17,7 +17,6 @@ use Rattle.sheet.specs.Stmt.{Stmt, local_count}
 use Rattle.sheet.specs.Read.{only}
 use Rattle.sheet.specs.Form.{Proper}
 use Rattle.sheet.proofs.Notions.{Scoped, proper_scoped}
-use Rattle.sets.specs.declared.Found.TheVariants.{Clear}
 use Rattle.sets.specs.Faults.{instant}
 use Rattle.rules.specs.Rules.{Signals}
 use Rattle.rules.specs.States.{State, tick, react, Event, fits}
@@ -34,6 +33,7 @@ use Rattle.builder.proofs.Format.{root, input_at, boot_split}
 use Rattle.agreement.specs.Rounds.{renewed}
 use Rattle.agreement.proofs.Restarts.{NoRestart}
 use Rattle.agreement.proofs.Root.{Asked, emitted}
+use Rattle.std.specs.Prelude.{None}
 
 -- Where the signals' cells stand.
 list_at : (L : List CellNo) (s k j : ℕ) → j < k → get_or (signal_cells L s k) j Low ≡ Gate Or (list_of L (signal_no (s + j))) low
@@ -78,7 +78,7 @@ module _ {I O : ℕ} {t : Stmt} (proper : Proper I O t) where
       off ((react E S t).emits s)
       (λ on. let own = react_emits I (1 + I + (O + local_count t)) E S t scoped s on in outside own.0 own.1)
 
-module _ {I O : ℕ} {t : Stmt} (proper : Proper I O t) (clear : instant (stmt_no 0) t ≡ Clear) (once : NoRestart t)
+module _ {I O : ℕ} {t : Stmt} (proper : Proper I O t) (clear : instant (stmt_no 0) t ≡ None) (once : NoRestart t)
     (J : Signals) (event : Event I J) (S : State) (fit : fits S t ≡ true) where
   abbrev U : ℕ
   U = O + local_count t

@@ -11,11 +11,11 @@ use Rattle.sheet.specs.declared.Unary.TheVariants.{Loop, Watching, Trap, Signal}
 use Rattle.sheet.specs.declared.Binary.TheVariants.{Sequence, Present, Parallel}
 use Rattle.sheet.specs.Stmt.{Stmt, leaf, one, two, size}
 use Rattle.sheet.specs.Read.{further}
-use Rattle.sets.specs.declared.Found.TheVariants.{Clear}
 use Rattle.sets.specs.Codes.{Codes, empty, join, when, replaced, caught, caught_codes}
 use Rattle.sets.specs.Static.{K, R}
 use Rattle.sets.specs.Faults.{Climb, through, behind, looped, besides, climbs, first_fault, twice}
 use Rattle.rules.proofs.Codes.{caught_in, clear_loop}
+use Rattle.std.specs.Prelude.{None}
 
 -- The codes of a resumption of t that resumes a parallel or signal statement which a start of t may start. (Those of a signal statement's part are in
 -- its R; they are joined so that no law has to say it.)
@@ -51,7 +51,7 @@ Fine P (c ∷ cs) = (c.fault ≡ false) × (c.starts ≡ true → All P c.codes)
 abbrev Any : ℕ → Type 0
 Any j = Unit
 
-fine_clear : (cs : List Climb) → first_fault cs ≡ Clear → Fine Any cs
+fine_clear : (cs : List Climb) → first_fault cs ≡ None → Fine Any cs
 unfolding first_fault Fine
 fine_clear [] e = tt
 fine_clear (c ∷ cs) e = let k = clear_loop c.at c.fault (first_fault cs) e in (k.0, λ s j a. tt, fine_clear cs k.1)
@@ -192,6 +192,6 @@ fine_restart P n (two Parallel p q) f =
     )
 
 -- TWICE is not answered
-pub no_restart : (n : StmtNo) (t : Stmt) → twice n t ≡ Clear → NoRestart t
+pub no_restart : (n : StmtNo) (t : Stmt) → twice n t ≡ None → NoRestart t
 unfolding twice
 no_restart n t e = fine_restart Any n t (fine_clear (climbs n t) e)

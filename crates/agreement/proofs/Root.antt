@@ -19,7 +19,6 @@ use Rattle.limits.specs.Limits.{max_signals}
 use Rattle.sheet.specs.Stmt.{Stmt, halt_count, local_count}
 use Rattle.sheet.specs.Form.{Proper}
 use Rattle.sheet.proofs.Notions.{Numbered, in_halts, proper_numbered, proper_exits, within_halt}
-use Rattle.sets.specs.declared.Found.TheVariants.{Clear}
 use Rattle.sets.specs.Faults.{instant}
 use Rattle.rules.specs.Rules.{Signals, Halts, idle, start, active, resume}
 use Rattle.rules.specs.States.{State, halts_of, react, next_state, apart, fits, no_halts_from}
@@ -43,6 +42,7 @@ use Rattle.agreement.proofs.Runs.{live, choose, par_active, pick_emits, pick_hal
 use Rattle.agreement.proofs.Nets.{Solved}
 use Rattle.agreement.proofs.Right.{Right}
 use Rattle.agreement.proofs.Structure.{root_right}
+use Rattle.std.specs.Prelude.{None}
 
 -- past its halts a statement keeps nothing
 pub no_halt_past : (t : Stmt) → Numbered (halt_no 0) t → (E : Signals) (S : State) (h : ℕ) → halt_count t ≤ h → (react E S t).halts (halt_no h) ≡ false
@@ -55,7 +55,7 @@ no_halt_past t numbered E S h l = off ((react E S t).halts (halt_no h)) (λ on. 
     past k = omega (arith, k.1)
 
 -- A state that fits, of a sheet that was read and has neither INSTANT nor TWICE.
-module _ {I O : ℕ} {t : Stmt} (proper : Proper I O t) (clear : instant (stmt_no 0) t ≡ Clear) (once : NoRestart t)
+module _ {I O : ℕ} {t : Stmt} (proper : Proper I O t) (clear : instant (stmt_no 0) t ≡ None) (once : NoRestart t)
     (S : State) (fit : fits S t ≡ true) where
   unbooted : S boot ≡ false → no_halts_from 0 S ≡ true
   unfolding fits pick
@@ -117,7 +117,7 @@ not_both false h u f o = off h u (f refl) o
     off : (h u : Bool) → h ≡ false → (u && not h) ≡ false → u ≡ false
     off = taut 2 2 _ _ _ tt
 
-module _ {I O : ℕ} {t : Stmt} (proper : Proper I O t) (clear : instant (stmt_no 0) t ≡ Clear) (once : NoRestart t)
+module _ {I O : ℕ} {t : Stmt} (proper : Proper I O t) (clear : instant (stmt_no 0) t ≡ None) (once : NoRestart t)
     (J : Signals) (S : State) (fit : fits S t ≡ true) (v : CellNo → Bool)
     (zero_low : v low ≡ false) (tick_on : v high ≡ true)
     (solves : (x : CellNo) → 2 + I + (O + local_count t) ≤ of_cell x → Asked (netlist I (O + local_count t) t) J S v x) where

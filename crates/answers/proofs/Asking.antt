@@ -5,13 +5,13 @@ use mathlib.Core.Bool.{true, false}
 use mathlib.Core.List.{List}
 use borrow.Author.Tests.{le-leb, lt-leb}
 use lib.ListN.{length, take, drop}
-use Rattle.texts.specs.declared.Value.{Value}
 use Rattle.texts.specs.Bytes.{bytes}
 use Rattle.answers.specs.Words.{word_end}
 use Rattle.answers.specs.Questions.{longest, first_word, after_word, one_word, bytes_in, set_in, of, of_bytes}
 use Rattle.answers.specs.Questions.{order_in, numbers_in, of_tables, one_table, order, about_order}
 use Rattle.answers.specs.Questions.{about_bytes, about_reaction, behind_bytes, with_bytes, asked, question}
 use Rattle.answers.proofs.Blanks.{rest_is}
+use Rattle.std.specs.Prelude.{Option}
 
 -- what is left of a text behind the blank at a place
 abbrev pub left : List ℕ → ℕ → List ℕ
@@ -32,13 +32,13 @@ module _ (text : List ℕ) (end : ℕ) (is : end ≡ word_end text) where
 
   module _ (word s : List ℕ) where
     -- two words that are sets, or are none
-    pub behind_two : {x y : Value} → end < length text → set_in (take end text) ≡ x → set_in (left text end) ≡ y
+    pub behind_two : {x y : Option ℕ} → end < length text → set_in (take end text) ≡ x → set_in (left text end) ≡ y
         → behind_bytes word s text ≡ of x (λ state. of y (about_reaction word s state))
     unfolding behind_bytes
     behind_two h state event =
         let first = sym (ap set_in first_is) ∙ state in
         let second = sym (ap set_in left_is) ∙ event in
-        rw (more_words h) (ap₂ (λ (a b : Value). of a (λ state. of b (about_reaction word s state))) first second)
+        rw (more_words h) (ap₂ (λ (a b : Option ℕ). of a (λ state. of b (about_reaction word s state))) first second)
 
     -- the bytes in the first word, and whether there is another
     pub about_bytes_lem : bytes_in (take end text) ≡ bytes s → of_bytes (bytes_in (first_word text)) (with_bytes word text) ≡ with_bytes word text s
@@ -54,12 +54,12 @@ module _ (text : List ℕ) (end : ℕ) (is : end ≡ word_end text) where
     with_more h = rw (more_words h) (ap (behind_bytes word s) (sym left_is))
 
   -- an order, and what follows it
-  pub order_then : {x : Value} → end < length text → order_in (take end text) ≡ x
+  pub order_then : {x : Option ℕ} → end < length text → order_in (take end text) ≡ x
       → about_order text ≡ of x (λ n. of_tables (numbers_in (left text end)) (one_table (order n)))
   unfolding about_order
   order_then h is_x =
       let first = sym (ap order_in first_is) ∙ is_x in
-      rw (more_words h) (ap₂ (λ (a : Value) (l : List ℕ). of a (λ n. of_tables (numbers_in l) (one_table (order n)))) first (sym left_is))
+      rw (more_words h) (ap₂ (λ (a : Option ℕ) (l : List ℕ). of a (λ n. of_tables (numbers_in l) (one_table (order n)))) first (sym left_is))
 
   -- a question's word, and what follows it
   pub question_is : length text ≤ longest → end < length text → question text ≡ asked (take end text) (left text end)

@@ -20,7 +20,6 @@ use Rattle.builder.specs.Netlist.{sheet_netlist, sheet_file}
 use Rattle.cells.specs.Netlist.{Netlist, netlist_of}
 use Rattle.files.specs.File.{file_bytes}
 use Rattle.files.specs.Read.{netlist}
-use Rattle.netlists.specs.declared.writer.FileWritten.TheVariants.{Length, Refused}
 use Rattle.netlists.specs.Write.{file_length, file_written, buffer_written, DidWrite}
 use Rattle.compiler.specs.Check.{Checks}
 use Rattle.interpreter.proofs.Interpreting.{Compiled_as}
@@ -34,16 +33,20 @@ use Rattle.sheet_entries.specs.Sheets.{sheet_accepted}
 use Rattle.sheet_entries.proofs.SheetEntries.{counts_are}
 use Rattle.compile_entries.specs.Compile.{sheet_net}
 use Rattle.compile_entries.proofs.CompileEntries.{prefix_long}
-use Rattle.texts.specs.Puts.{Puts}
+use Rattle.texts.specs.declared.Page.{Page}
+use Rattle.texts.specs.Puts.{Writes}
 use Rattle.answers.specs.Questions.{room, write}
 use Rattle.answers.specs.Texts.{file_text, no_file_text, written_text}
 use Rattle.answers.specs.Answering.{Lends, is_written}
 use Rattle.answers.specs.Code.{Says, FileSaid}
 use Rattle.answers.proofs.Saying.{said}
+use Rattle.std.specs.Prelude.{Ok, Err}
+use Rattle.sets.specs.declared.Both.{Both}
+use Rattle.sheet.specs.declared.Row.{Row}
 
 module _ {w : Netlist} {lent lent' : List ℕ} where
   -- BUFFER: the buffer is too short
-  pub too_short : {f : Fault} (a : Answer) → DidWrite w (Refused f) lent lent'
+  pub too_short : {f : Fault} (a : Answer) → DidWrite w (Err f) lent lent'
       → written_text (write_verdict (netlist w) (file_bytes w) lent) a (file_bytes w) ≡ no_file_text a
   unfolding write_verdict verdict net_verdict pick written_text file_written
   too_short {f} a did = rw (by_room (ltb (length lent) (file_length w)) refl)
@@ -51,26 +54,26 @@ module _ {w : Netlist} {lent lent' : List ℕ} where
       by_room : (b : Bool) → ltb (length lent) (file_length w) ≡ b → leb (length (file_bytes w)) (length lent) ≡ false
       by_room true is = lt-leb (length (file_bytes w)) (length lent) (ltb-true (length lent) (file_length w) is)
       by_room false is =
-          let z : Refused f ≡ Length (file_length w) = did.answer ∙ rw is in
+          let z : Err f ≡ Ok (file_length w) = did.answer ∙ rw is in
           let y : ◌≡◌ {A = ℕ} 0 1 = cc in
           absurd (omega arith)
 
   -- the file is there
-  module _ {n : ℕ} (did : DidWrite w (Length n) lent lent') where
+  module _ {n : ℕ} (did : DidWrite w (Ok n) lent lent') where
     fits : length (file_bytes w) ≤ length lent
     unfolding file_written pick
     fits = by_room (ltb (length lent) (file_length w)) refl
       where
         by_room : (b : Bool) → ltb (length lent) (file_length w) ≡ b → length (file_bytes w) ≤ length lent
         by_room true is =
-            let z : Length n ≡ Refused (fault Buffer (file_length w)) = did.answer ∙ rw is in
+            let z : Ok n ≡ Err (fault Buffer (file_length w)) = did.answer ∙ rw is in
             let y : ◌≡◌ {A = ℕ} 0 1 = cc in
             absurd (omega arith)
         by_room false is = ltb-false (length lent) (file_length w) is
 
     long : n ≡ file_length w
     unfolding file_written pick
-    long = let z : Length n ≡ Length (file_length w) = did.answer ∙ rw (le-ltb (length lent) (file_length w) fits) in cc
+    long = let z : Ok n ≡ Ok (file_length w) = did.answer ∙ rw (le-ltb (length lent) (file_length w) fits) in cc
 
     laid : lent' ≡ sets lent 0 (file_bytes w)
     unfolding buffer_written pick
@@ -87,17 +90,17 @@ module _ {w : Netlist} {lent lent' : List ℕ} where
     has_file a = rw (le-leb (length (file_bytes w)) (length lent) fits)
 
 -- a sheet that is refused
-pub wrote_none : {s : List ℕ} (lent : List ℕ) {f : Fault} {n k : ℕ} {out out' : List ℕ} → Checks s (faulty f) → Lends n lent
-    → Puts (no_file_text (refusal f)) 0 k out out' → Says (write s n) k out out'
+pub wrote_none : {s : List ℕ} (lent : List ℕ) {f : Fault} {n : ℕ} {p p' : Page} → Checks s (faulty f) → Lends n lent
+    → Writes (no_file_text (refusal f)) p p' → Says (write s n) p p'
 unfolding write_verdict verdict net_verdict written_text sheet_net
-wrote_none lent {f} was lends p =
+wrote_none lent {f} was lends w =
     said
     (is_written {buffer = lent} {buffer' = lent} {r = refusal f} lends
     (record { outcome = faulty f; checks = was; filed = filed_refused }))
-    p
+    w
 
 -- the netlist of one that is accepted
-module _ {s rows statics cells : List ℕ} {c : Counts} {n : ℕ} (a : Compiled_as s c n rows statics cells)
+module _ {s : List ℕ} {rows : List Row} {statics : List Both} {cells : List ℕ} {c : Counts} {n : ℕ} (a : Compiled_as s c n rows statics cells)
     (enough : length cells ≡ max_cells) where
   cells_are : cells_of (take n cells) ≡ sheet_netlist a.read
   cells_are = ap (λ (k : ℕ). cells_of (take k cells)) a.count ∙ a.own.means
@@ -108,10 +111,10 @@ module _ {s rows statics cells : List ℕ} {c : Counts} {n : ℕ} (a : Compiled_
   counted : acceptance c.statements (length (take n cells)) ≡ sheet_accepted (sheet a.read)
   counted = ap (acceptance c.statements) (sym (prefix_long a enough)) ∙ counts_are a
 
-  pub wrote_file : (lent : List ℕ) {out out' : List ℕ} {m k : ℕ}
-      → FileSaid (netlist_of c.inputs c.outputs (take n cells)) (acceptance c.statements (length (take n cells))) k lent out out'
+  pub wrote_file : (lent : List ℕ) {p p' : Page} {m : ℕ}
+      → FileSaid (netlist_of c.inputs c.outputs (take n cells)) (acceptance c.statements (length (take n cells))) lent p p'
       → Lends m lent
-      → Says (write s m) k out out'
+      → Says (write s m) p p'
   unfolding sheet_net file_of
   wrote_file lent told lends =
       said

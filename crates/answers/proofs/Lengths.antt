@@ -26,6 +26,8 @@ use Rattle.netlist_entries.specs.Netlists.{net_verdict}
 use Rattle.netlist_entries.specs.Files.{file_of, write_verdict}
 use Rattle.netlist_entries.proofs.CellEntries.{laid_front}
 use Rattle.compile_entries.specs.Compile.{sheet_net}
+use Rattle.texts.specs.declared.Page.{Page}
+use Rattle.texts.specs.Puts.{Puts}
 use Rattle.texts.specs.Written.{in_hex, behind_blanks, row}
 use Rattle.texts.proofs.Numerals.{decimal_short, hex_short}
 use Rattle.answers.specs.Questions.{Question, room}
@@ -125,14 +127,14 @@ answer_short (is_ordered {n = n} {table = ns} {r = r} was) =
     order_short r (ap (λ (r : Reordered). length r.table.pins) was.answer ∙ order_pins n ns)
 
 -- so all of it stands in the buffer
-pub all_told : {q : Question} {n : ℕ} {out out' : List ℕ} → longest_answer ≤ length out → length out ≤ 18446744073709551615
-    → Says q n out out'
-    → Told q n out'
-all_told {n = n} {out = out} {out' = out'} long small s =
+pub all_told : {q : Question} {n : ℕ} {out out' : List ℕ} {p p' : Page} → longest_answer ≤ length out → length out ≤ 18446744073709551615
+    → p.at ≡ 0 → p.out.now ≡ out → p'.out.now ≡ out' → p'.at ≡ n → Says q p p' → Told q n out'
+all_told {n = n} {out = out} {out' = out'} long small begun lent left place s =
     let few = answer_short s.answers in
-    let all : n ≡ length s.text = omega (arith, s.written.past) in
+    let written : Puts s.text 0 n out out' = rw (begun, lent, left, place) at s.written.puts in
+    let all : n ≡ length s.text = omega (arith, written.past) in
     let fits : length s.text ≤ length out = omega (arith, few) in
     record {
-      answers = rw (all, s.written.laid, laid_front out s.text fits) s.answers;
-      within = omega (arith, ap length s.written.laid, length-sets out 0 s.text);
+      answers = rw (all, written.laid, laid_front out s.text fits) s.answers;
+      within = omega (arith, ap length written.laid, length-sets out 0 s.text);
     }

@@ -10,27 +10,24 @@ use lib.Dec.{eqb, leb, ltb}
 use lib.ListN.{length, take, drop, set, length-drop, length-set}
 use lib.Seq.{drop-drop, take_all, take-suc-set, length-take-le}
 use Rattle.covers.specs.Covers.{size, table_count}
-use Rattle.texts.specs.declared.Value.{Value}
-use Rattle.texts.specs.declared.Value.TheVariants.{Is, Bad}
 use Rattle.texts.specs.Digits.{value_of}
-use Rattle.texts.proofs.Truth.{true_false}
 use Rattle.answers.specs.Words.{part_end}
-use Rattle.answers.specs.declared.numbers.Numbers.{Numbers as Read}
 use Rattle.answers.specs.Questions.{longest, numbers_in, Question, none, of_tables, one_table}
 use Rattle.answers.specs.Tables.{is_truth, sign_behind, short, number_in, Numbers, these, no_tables, before, numbers_from}
 use Rattle.answers.specs.Code.{Tabled}
+use Rattle.std.specs.Prelude.{Option, Some, None}
 
 -- a number that was read has 16 bits
-short_small : (v : Value) {n : ℕ} → short v ≡ Is n → n ≤ 65535
+short_small : (v : Option ℕ) {n : ℕ} → short v ≡ Some n → n ≤ 65535
 unfolding short
-short_small (Is m) {n} e = by_size (leb m 65535) refl
+short_small (Some m) {n} e = by_size (leb m 65535) refl
   where
     by_size : (b : Bool) → leb m 65535 ≡ b → n ≤ 65535
-    by_size true is = let same : Is m ≡ Is n = rw is at e in let z : m ≡ n = cc in omega (arith, leb-true m 65535 is)
-    by_size false is = let z : Bad ≡ Is n = rw is at e in let y : ◌≡◌ {A = ℕ} 0 1 = cc in absurd (omega arith)
-short_small Bad e = let z : ◌≡◌ {A = ℕ} 0 1 = cc in absurd (omega arith)
+    by_size true is = let same : Some m ≡ Some n = rw is at e in let z : m ≡ n = cc in omega (arith, leb-true m 65535 is)
+    by_size false is = let z : None ≡ Some n = rw is at e in let y : ◌≡◌ {A = ℕ} 0 1 = cc in absurd (omega arith)
+short_small None e = let z : ◌≡◌ {A = ℕ} 0 1 = cc in absurd (omega arith)
 
-pub number_small : (i : ℕ) (part : List ℕ) {n : ℕ} → number_in i part ≡ Is n → n ≤ 65535
+pub number_small : (i : ℕ) (part : List ℕ) {n : ℕ} → number_in i part ≡ Some n → n ≤ 65535
 unfolding number_in
 number_small i part e = short_small (cond (is_truth i) (value_of 16 4 part) (value_of 10 5 part)) e
 
@@ -77,7 +74,7 @@ unfolding joined
 joined_none (these ms) = refl
 joined_none no_tables = refl
 
-joined_more : (ns : List ℕ) (n : ℕ) (x : Numbers) → joined ns (before (Is n) x) ≡ joined (ns ++ (n ∷ [])) x
+joined_more : (ns : List ℕ) (n : ℕ) (x : Numbers) → joined ns (before (Some n) x) ≡ joined (ns ++ (n ∷ [])) x
 unfolding joined before
 joined_more ns n (these ms) = rw (append_assoc ns (n ∷ []) ms)
 joined_more ns n no_tables = refl
@@ -124,7 +121,7 @@ module _ {text numbers : List ℕ} {i at end : ℕ} (r : Reading text numbers i 
       let all = take_all (end - at) (drop at text) (omega (arith, rest_long)) in
       rw all (number_last i [] (drop at text) (omega (arith, rest_long, is)))
 
-  pub not_number : number_in i part ≡ Bad → numbers_from 0 [] text ≡ no_tables
+  pub not_number : number_in i part ≡ None → numbers_from 0 [] text ≡ no_tables
   unfolding joined before
   not_number bad = r.so_far ∙ by_end (ltb end (length text)) refl
     where
@@ -136,7 +133,7 @@ module _ {text numbers : List ℕ} {i at end : ℕ} (r : Reading text numbers i 
       by_end true more = rw (cut (ltb-true end (length text) more), bad)
       by_end false past = rw (last (ltb-false end (length text) past), bad) (by_truth (is_truth i))
 
-  module _ {n : ℕ} (number : number_in i part ≡ Is n) (room : i < length numbers) where
+  module _ {n : ℕ} (number : number_in i part ≡ Some n) (room : i < length numbers) where
     stored : take (i + 1) (set numbers i n) ≡ take i numbers ++ (n ∷ [])
     stored = rw (add-one, take-suc-set numbers i n)
 
@@ -154,41 +151,40 @@ module _ {text numbers : List ℕ} {i at end : ℕ} (r : Reading text numbers i 
     last_read h = r.so_far ∙ rw (last h, number, stored) (by_truth (is_truth i))
       where
         by_truth : (b : Bool)
-            → joined (take i numbers) (cond b (before (Is n) (these [])) no_tables) ≡ cond b (these (take i numbers ++ (n ∷ []))) no_tables
+            → joined (take i numbers) (cond b (before (Some n) (these [])) no_tables) ≡ cond b (these (take i numbers ++ (n ∷ []))) no_tables
         by_truth true = refl
         by_truth false = refl
 
 -- what was read of a text, by how long it is
 module _ (text numbers' : List ℕ) where
-  pub too_long : longest < length text → Tabled text (record { good = false; len = 0 }) numbers'
+  pub too_long : longest < length text → Tabled text None numbers'
   unfolding numbers_in
-  too_long h = record { few = omega arith; good = λ e. true_false (sym e); bad = λ _. rw (lt-leb (length text) longest h) }
+  too_long h = rw (lt-leb (length text) longest h)
 
   module _ (h : length text ≤ longest) where
     in_all : numbers_in text ≡ numbers_from 0 [] text
     unfolding numbers_in
     in_all = rw (le-leb (length text) longest h)
 
-    pub were_no_tables : numbers_from 0 [] text ≡ no_tables → Tabled text (record { good = false; len = 0 }) numbers'
-    were_no_tables not = record { few = omega arith; good = λ e. true_false (sym e); bad = λ _. in_all ∙ not }
+    pub were_no_tables : numbers_from 0 [] text ≡ no_tables → Tabled text None numbers'
+    were_no_tables not = in_all ∙ not
 
-    pub were_tables : {t : Bool} {n : ℕ} → n ≤ length numbers' → numbers_from 0 [] text ≡ cond t (these (take n numbers')) no_tables
-        → Tabled text (record { good = t; len = n }) numbers'
-    were_tables few all = record { few = few; good = λ e. in_all ∙ (rw e at all); bad = λ e. in_all ∙ (rw e at all) }
+    pub were_tables : {n : ℕ} → n ≤ length numbers' → numbers_from 0 [] text ≡ these (take n numbers') → Tabled text (Some n) numbers'
+    were_tables few all = (few, in_all ∙ all)
 
 -- one table, or another number of them
-module _ {word numbers' : List ℕ} {r : Read} (read : Tabled word r numbers') where
-  long : length (take r.len numbers') ≡ r.len
-  long = length-take-le r.len numbers' read.few
+module _ (word numbers' : List ℕ) {n : ℕ} (read : Tabled word (Some n) numbers') where
+  long : length (take n numbers') ≡ n
+  long = length-take-le n numbers' read.0
 
-  pub has_table : r.len ≡ size → 0 < table_count (take r.len numbers')
+  pub has_table : n ≡ size → 0 < table_count (take n numbers')
   has_table one = rw (long, one) (omega arith)
 
-  module _ (good : r.good ≡ true) (ask : List ℕ → Question) where
-    pub not_one : (r.len ≡ size → ⊥) → of_tables (numbers_in word) (one_table ask) ≡ none
+  module _ (ask : List ℕ → Question) where
+    pub not_one : (n ≡ size → ⊥) → of_tables (numbers_in word) (one_table ask) ≡ none
     unfolding of_tables
-    not_one other = rw (read.good good, long, ne_eqb r.len size other)
+    not_one other = rw (read.1, long, ne_eqb n size other)
 
-    pub is_one : r.len ≡ size → of_tables (numbers_in word) (one_table ask) ≡ ask (take r.len numbers')
+    pub is_one : n ≡ size → of_tables (numbers_in word) (one_table ask) ≡ ask (take n numbers')
     unfolding of_tables
-    is_one one = rw (read.good good, long, eq-eqb r.len size one)
+    is_one one = rw (read.1, long, eq-eqb n size one)

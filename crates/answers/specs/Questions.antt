@@ -1,8 +1,6 @@
 -- The questions: a line is the question's word, then the words that it asks about, one blank between two. Any other line is no question.
-use Rattle.std.specs.Prelude.{ℕ, suc, Bool, cond, List, [], ◌∷◌, eqb, leb, length, take, drop}
+use Rattle.std.specs.Prelude.{ℕ, suc, Bool, cond, List, [], ◌∷◌, eqb, leb, length, take, drop, Option, Some, None}
 use Rattle.covers.specs.Covers.{size}
-use Rattle.texts.specs.declared.Value.{Value}
-use Rattle.texts.specs.declared.Value.TheVariants.{Is, Bad}
 use Rattle.texts.specs.Digits.{value_of, set_digits}
 use Rattle.texts.specs.Bytes.{Decoded, bytes, malformed, bytes_within}
 use Rattle.texts.specs.Words.{same}
@@ -35,10 +33,10 @@ unfoldable pub bytes_in : List ℕ → Decoded
 bytes_in word = cond (same word no_bytes) (bytes []) (cond (eqb (length word) 0) malformed (bytes_within room word))
 
 -- a state or an event, and a length
-abbrev pub set_in : List ℕ → Value
+abbrev pub set_in : List ℕ → Option ℕ
 set_in word = value_of 16 set_digits word
 
-abbrev pub length_in : List ℕ → Value
+abbrev pub length_in : List ℕ → Option ℕ
 length_in word = value_of 10 20 word
 
 -- "N is 1 to 20 decimal digits, at most 2^64 - 1". A larger number is read as the largest (Digits), which has 20 digits and so one
@@ -48,11 +46,11 @@ largest =
     49 ∷ (56 ∷ (52 ∷ (52 ∷ (54 ∷ (55 ∷ (52 ∷ (52 ∷ (48 ∷ (55 ∷
     (51 ∷ (55 ∷ (48 ∷ (57 ∷ (53 ∷ (53 ∷ (49 ∷ (54 ∷ (49 ∷ (53 ∷ [])))))))))))))))))))
 
-unfoldable pub or_spelled : Value → List ℕ → Value
-or_spelled (Is n) word = cond (eqb n 18446744073709551615) (cond (same word largest) (Is n) Bad) (Is n)
-or_spelled Bad word = Bad
+unfoldable pub or_spelled : Option ℕ → List ℕ → Option ℕ
+or_spelled (Some n) word = cond (eqb n 18446744073709551615) (cond (same word largest) (Some n) None) (Some n)
+or_spelled None word = None
 
-abbrev pub order_in : List ℕ → Value
+abbrev pub order_in : List ℕ → Option ℕ
 order_in word = or_spelled (length_in word) word
 
 -- the numbers of tables; a line has no longer word
@@ -79,9 +77,9 @@ pub data Question : Type 0 where
   none : Question
 
 -- of a number that may be none
-unfoldable pub of : Value → (ℕ → Question) → Question
-of (Is n) ask = ask n
-of Bad ask = none
+unfoldable pub of : Option ℕ → (ℕ → Question) → Question
+of (Some n) ask = ask n
+of None ask = none
 
 unfoldable pub of_bytes : Decoded → (List ℕ → Question) → Question
 of_bytes (bytes s) ask = ask s

@@ -1,10 +1,8 @@
 -- Tables in a question. "A TABLE is cell:pin0:pin1:pin2:pin3:truth", and tables have "one comma between two". So tables in a row are a
 -- row of numbers, as a cover is.
-use Rattle.std.specs.Prelude.{ℕ, suc, ◌+◌, ◌%◌, Bool, cond, List, [], ◌∷◌, ◌++◌, eqb, leb}
+use Rattle.std.specs.Prelude.{ℕ, suc, ◌+◌, ◌%◌, Bool, cond, List, [], ◌∷◌, ◌++◌, eqb, leb, Option, Some, None}
 use Rattle.tables.specs.Answering.{pins}
 use Rattle.covers.specs.Covers.{size}
-use Rattle.texts.specs.declared.Value.{Value}
-use Rattle.texts.specs.declared.Value.TheVariants.{Is, Bad}
 use Rattle.texts.specs.Digits.{value_of}
 
 abbrev pub comma : ℕ
@@ -22,12 +20,12 @@ abbrev pub sign_behind : ℕ → ℕ
 sign_behind i = cond (is_truth i) comma colon
 
 -- a number of 16 bits, or none
-unfoldable pub short : Value → Value
-short (Is n) = cond (leb n 65535) (Is n) Bad
-short Bad = Bad
+unfoldable pub short : Option ℕ → Option ℕ
+short (Some n) = cond (leb n 65535) (Some n) None
+short None = None
 
 -- "five decimal numbers of 1 to 5 digits, at most 65535, and 1 to 4 hex digits"
-unfoldable pub number_in : ℕ → List ℕ → Value
+unfoldable pub number_in : ℕ → List ℕ → Option ℕ
 unfolding short
 number_in i part = short (cond (is_truth i) (value_of 16 4 part) (value_of 10 5 part))
 
@@ -36,10 +34,10 @@ pub data Numbers : Type 0 where
   these : List ℕ → Numbers
   no_tables : Numbers
 
-unfoldable pub before : Value → Numbers → Numbers
-before (Is n) (these ns) = these (n ∷ ns)
-before (Is n) no_tables = no_tables
-before Bad ns = no_tables
+unfoldable pub before : Option ℕ → Numbers → Numbers
+before (Some n) (these ns) = these (n ∷ ns)
+before (Some n) no_tables = no_tables
+before None ns = no_tables
 
 -- the numbers from number i on; `held` are the bytes of it that are passed
 unfoldable pub numbers_from : ℕ → List ℕ → List ℕ → Numbers

@@ -20,13 +20,6 @@ const READ: usize = 1024;
 // No answer is longer.
 const OUT: usize = 16512;
 
-// The bytes at hand after a line, or after a read where one is wanted, and whether to go on.
-#[derive(Clone, Copy)]
-struct After {
-    source: Source,
-    more: bool,
-}
-
 // An answer that cannot be written is lost.
 fn print_answer<W: Write>(output: &mut W, line: &[u8]) {
     let mut out = [0u8; OUT];
@@ -34,44 +27,32 @@ fn print_answer<W: Write>(output: &mut W, line: &[u8]) {
     let _ = output.write_all(&out[..n]);
 }
 
-// Answers one line, or reads.
+// Answers one line, or reads. The bytes at hand after that; none where there is no line any more.
 fn turn<R: Read, W: Write>(
     input: &mut R,
     output: &mut W,
     s: Source,
     bytes: &mut [u8],
     line: &mut [u8],
-) -> After {
+) -> Option<Source> {
     let next = texts::next_line(s, bytes, line);
-    let source = next.source;
-    let found = next.found;
-    match found {
-        Found::Line => {
-            let n = next.len;
+    match next.found {
+        Found::Line(n) => {
             print_answer(output, &line[..n]);
-            After { source, more: true }
+            Some(next.source)
         }
-        Found::More => After {
-            source: texts::refill(input, bytes, source),
-            more: true,
-        },
-        Found::End => After {
-            source,
-            more: false,
-        },
+        Found::More => Some(texts::refill(input, bytes, next.source)),
+        Found::End => None,
     }
 }
 
 fn run<R: Read, W: Write>(input: &mut R, output: &mut W, bytes: &mut [u8], line: &mut [u8]) {
     let mut source = texts::nothing_read();
-    let mut turns = u64::MAX;
-    while turns > 0 {
-        let t = turn(input, output, source, bytes, line);
-        if !t.more {
+    for _ in 0..u64::MAX {
+        let Some(next) = turn(input, output, source, bytes, line) else {
             return;
-        }
-        source = t.source;
-        turns -= 1;
+        };
+        source = next;
     }
 }
 

@@ -1,99 +1,89 @@
 // order N TABLE. N is a number of 64 bits in decimal. TABLE is the table's cell, the cells at its pins and its truth table in hex, with a colon between two.
 ghost use Rattle.std.specs.Prelude.{◌≡◌, [], ◌∷◌, map};
 ghost use Rattle.number.specs.Counts.{of_cell};
-ghost use Rattle.texts.specs.Puts.{Puts};
+ghost use Rattle.texts.specs.Puts.{Writes};
 ghost use Rattle.answers.specs.Questions as Questions;
 ghost use Rattle.answers.specs.Texts.{parts, table_text, order_text};
 ghost use Rattle.answers.specs.Code.{Says};
 
 use crate::{numbers, output, words};
 use krankovel::{CellNo, Reordered, Table};
-use texts::Value;
+use texts::Page;
+
+// The largest number that a word can hold.
+const LARGEST: &[u8] = b"18446744073709551615";
 
 // 1 to 20 decimal digits, of a number that a word can hold. A larger one is read as the largest, which has 20 digits and one spelling.
-fn order_value(text: &[u8]) -> Value
+fn order_value(text: &[u8]) -> Option<u64>
     ensures { result ≡ Questions.order_in text.now }
 {
-    let Value::Is(n) = texts::decimal_value(text) else {
-        return Value::Bad;
-    };
+    let n = texts::decimal_value(text)?;
     if n != u64::MAX {
-        return Value::Is(n);
+        return Some(n);
     }
-    if texts::same(text, b"18446744073709551615") {
-        return Value::Is(n);
-    }
-    Value::Bad
+    if text == LARGEST { Some(n) } else { None }
 }
 
-fn put_part(out: &mut [u8], at: usize, n: u16) -> usize
-    ensures { Puts (parts (n ∷ [])) at result out.old out.new }
+fn put_part(n: u16, page: &mut Page)
+    ensures { Writes (parts (n ∷ [])) page.old page.new }
 {
-    let colon = texts::put_decimal(out, at, n as u64);
-    texts::put_byte(out, colon, b':')
+    page.decimal(u64::from(n));
+    page.byte(b':');
 }
 
 // The cells at the pins, a colon behind each.
-fn put_pins(out: &mut [u8], at: usize, pins: [CellNo; Table::PINS]) -> usize
-    ensures { Puts (parts (map of_cell pins)) at result out.old out.new }
+fn put_pins(pins: [CellNo; Table::PINS], page: &mut Page)
+    ensures { Writes (parts (map of_cell pins)) page.old page.new }
 {
-    let mut end = at;
-    let mut p = 0;
-    while p < Table::PINS {
-        let cell = pins[p];
-        end = put_part(out, end, cell.number());
-        p += 1;
+    // The place fits its type: a fact of the read, for a loop that may have no turn.
+    let _begun = page.at;
+    for cell in &pins {
+        put_part(cell.number(), page);
     }
-    end
 }
 
-fn put_table(out: &mut [u8], at: usize, table: Table) -> usize
-    ensures { Puts (table_text table) at result out.old out.new }
+fn put_table(table: Table, page: &mut Page)
+    ensures { Writes (table_text table) page.old page.new }
 {
-    let first = put_part(out, at, table.cell.number());
-    let pins = table.pins;
-    let truth = put_pins(out, first, pins);
-    texts::put_hex(out, truth, table.truth as u64)
+    put_part(table.cell.number(), page);
+    put_pins(table.pins, page);
+    page.hex(u64::from(table.truth));
 }
 
 // number place TABLE
-fn reordered(r: Reordered, out: &mut [u8]) -> usize
-    ensures { Puts (order_text r) 0 result out.old out.new }
+fn reordered(r: Reordered, page: &mut Page)
+    ensures { Writes (order_text r) page.old page.new }
 {
-    let numbers = [r.number as u64, r.place as u64];
-    let first = texts::put_row(out, 0, &numbers);
-    let second = texts::put_byte(out, first, b' ');
-    let table = r.table;
-    let end = put_table(out, second, table);
-    texts::put_byte(out, end, b'\n')
+    page.row(&[u64::from(r.number), r.place as u64]);
+    page.byte(b' ');
+    put_table(r.table, page);
+    page.byte(b'\n');
 }
 
 // A table, or none.
-fn answer_table(order: u64, text: &[u8], out: &mut [u8]) -> usize
-    ensures { Says (Questions.of_tables (Questions.numbers_in text.now) (Questions.one_table (Questions.order order))) result out.old out.new }
+fn answer_table(order: u64, text: &[u8], page: &mut Page)
+    ensures { Says (Questions.of_tables (Questions.numbers_in text.now) (Questions.one_table (Questions.order order))) page.old page.new }
 {
     let mut row = [0u16; numbers::ROOM];
-    let read = numbers::read(text, &mut row);
-    if !read.good {
-        return output::bad_line(out);
+    let Some(n) = numbers::read(text, &mut row) else {
+        return output::bad_line(page);
+    };
+    if n != numbers::SIZE {
+        return output::bad_line(page);
     }
-    if read.len != numbers::SIZE {
-        return output::bad_line(out);
-    }
-    let n = read.len;
     let table = covers::table_at(&row[..n], 0);
-    reordered(table.reorder(order), out)
+    reordered(table.reorder(order), page);
 }
 
-pub fn answer(text: &[u8], out: &mut [u8]) -> usize
-    ensures { Says (Questions.about_order text.now) result out.old out.new }
+pub fn answer(text: &[u8], page: &mut Page)
+    ensures { Says (Questions.about_order text.now) page.old page.new }
 {
     let end = words::word_end(text);
     if text.len() <= end {
-        return output::bad_line(out);
+        return output::bad_line(page);
     }
-    let Value::Is(order) = order_value(&text[..end]) else {
-        return output::bad_line(out);
+    let Some(order) = order_value(&text[..end]) else {
+        return output::bad_line(page);
     };
-    answer_table(order, &text[end + 1..], out)
+    answer_table(order, &text[end + 1..], page);
 }

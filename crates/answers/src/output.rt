@@ -1,36 +1,34 @@
-// What is printed: a line for each answer, one blank between its words, at the start of a lent buffer; its length is answered.
+// What is printed: a line for each answer, one blank between its words.
 ghost use Rattle.texts.specs.Written.{row, bad_text};
-ghost use Rattle.texts.specs.Puts.{Puts};
+ghost use Rattle.texts.specs.Puts.{Writes};
 ghost use Rattle.answers.specs.Texts as Texts;
 
 use krankovel::{Answer, Reaction, Reading};
+use texts::Page;
 
-pub fn bad_line(out: &mut [u8]) -> usize
-    ensures { Puts bad_text 0 result out.old out.new }
+pub fn bad_line(page: &mut Page)
+    ensures { Writes bad_text page.old page.new }
 {
-    texts::put_bytes(out, 0, b"bad line\n")
+    page.bytes(b"bad line\n");
 }
 
-fn numbers(numbers: &[u64], out: &mut [u8]) -> usize
-    ensures { Puts (Texts.line numbers.now) 0 result out.old out.new }
+fn numbers(numbers: &[u64], page: &mut Page)
+    ensures { Writes (Texts.line numbers.now) page.old page.new }
 {
-    let end = texts::put_row(out, 0, numbers);
-    texts::put_byte(out, end, b'\n')
+    page.row(numbers);
+    page.byte(b'\n');
 }
 
 // 1 for yes, 0 for no.
-pub fn yes_or_no(b: bool, out: &mut [u8]) -> usize
-    ensures { Puts (Texts.rest_text b) 0 result out.old out.new }
+pub fn yes_or_no(b: bool, page: &mut Page)
+    ensures { Writes (Texts.rest_text b) page.old page.new }
 {
-    if b {
-        return numbers(&[1], out);
-    }
-    numbers(&[0], out)
+    numbers(&[u64::from(b)], page);
 }
 
 // number place statements halts signals
-pub fn reading(r: Reading, out: &mut [u8]) -> usize
-    ensures { Puts (Texts.reading_text r) 0 result out.old out.new }
+pub fn reading(r: Reading, page: &mut Page)
+    ensures { Writes (Texts.reading_text r) page.old page.new }
 {
     let all = [
         r.number as u64,
@@ -39,12 +37,12 @@ pub fn reading(r: Reading, out: &mut [u8]) -> usize
         r.halts as u64,
         r.signals as u64,
     ];
-    numbers(&all, out)
+    numbers(&all, page);
 }
 
 // number place statements cells
-fn verdict(a: Answer, out: &mut [u8]) -> usize
-    ensures { Puts (row (Texts.numbers_of a)) 0 result out.old out.new }
+fn verdict(a: Answer, page: &mut Page)
+    ensures { Writes (row (Texts.numbers_of a)) page.old page.new }
 {
     let all = [
         a.number as u64,
@@ -52,35 +50,35 @@ fn verdict(a: Answer, out: &mut [u8]) -> usize
         a.statements as u64,
         a.cells as u64,
     ];
-    texts::put_row(out, 0, &all)
+    page.row(&all);
 }
 
-pub fn answer(a: Answer, out: &mut [u8]) -> usize
-    ensures { Puts (Texts.answer_text a) 0 result out.old out.new }
+pub fn answer(a: Answer, page: &mut Page)
+    ensures { Writes (Texts.answer_text a) page.old page.new }
 {
-    let end = verdict(a, out);
-    texts::put_byte(out, end, b'\n')
+    verdict(a, page);
+    page.byte(b'\n');
 }
 
-pub fn with_file(a: Answer, file: &[u8], out: &mut [u8]) -> usize
-    ensures { Puts (Texts.file_text a file.now) 0 result out.old out.new }
+pub fn with_file(a: Answer, file: &[u8], page: &mut Page)
+    ensures { Writes (Texts.file_text a file.now) page.old page.new }
 {
-    let first = verdict(a, out);
-    let second = texts::put_byte(out, first, b' ');
-    let end = texts::put_hex_bytes(out, second, file);
-    texts::put_byte(out, end, b'\n')
+    verdict(a, page);
+    page.byte(b' ');
+    page.hex_bytes(file);
+    page.byte(b'\n');
 }
 
-pub fn without_file(a: Answer, out: &mut [u8]) -> usize
-    ensures { Puts (Texts.no_file_text a) 0 result out.old out.new }
+pub fn without_file(a: Answer, page: &mut Page)
+    ensures { Writes (Texts.no_file_text a) page.old page.new }
 {
-    let end = verdict(a, out);
-    texts::put_bytes(out, end, b" -\n")
+    verdict(a, page);
+    page.bytes(b" -\n");
 }
 
 // number place statements cells signals state
-pub fn reaction(r: Reaction, out: &mut [u8]) -> usize
-    ensures { Puts (Texts.reaction_text r) 0 result out.old out.new }
+pub fn reaction(r: Reaction, page: &mut Page)
+    ensures { Writes (Texts.reaction_text r) page.old page.new }
 {
     let a = Answer {
         number: r.number,
@@ -88,10 +86,10 @@ pub fn reaction(r: Reaction, out: &mut [u8]) -> usize
         statements: r.statements,
         cells: r.cells,
     };
-    let first = verdict(a, out);
-    let second = texts::put_byte(out, first, b' ');
-    let third = texts::put_set(out, second, r.signals);
-    let fourth = texts::put_byte(out, third, b' ');
-    let end = texts::put_set(out, fourth, r.state);
-    texts::put_byte(out, end, b'\n')
+    verdict(a, page);
+    page.byte(b' ');
+    page.set(r.signals);
+    page.byte(b' ');
+    page.set(r.state);
+    page.byte(b'\n');
 }

@@ -9,7 +9,6 @@ use Rattle.sheet.specs.Stmt.{Stmt}
 use Rattle.sheet.specs.Read.{Sheet}
 use Rattle.sheet.specs.Form.{Proper}
 use Rattle.sheet.proofs.Notions.{proper_numbered}
-use Rattle.sets.specs.declared.Found.TheVariants.{Clear}
 use Rattle.sets.specs.Codes.{empty}
 use Rattle.sets.specs.Faults.{instant, twice}
 use Rattle.rules.specs.Rules.{Signals, Halts, Outcome}
@@ -20,9 +19,10 @@ use Rattle.berry.specs.Haltsets.{recovered}
 use Rattle.berry.specs.Modules.{Transition, Move, Sole, Derivative, itself, onward, Correct, body, haltset_of, move_on, Faithful, FromHaltset}
 use Rattle.berry.proofs.Faithfulness.{faithful}
 use Rattle.berry.proofs.Finite.{from_haltset}
+use Rattle.std.specs.Prelude.{None}
 
-module _ (w : Sheet) (proper : Proper w.inputs w.outputs w.root) (clear : instant (stmt_no 0) w.root ≡ Clear)
-    (once : twice (stmt_no 0) w.root ≡ Clear)
+module _ (w : Sheet) (proper : Proper w.inputs w.outputs w.root) (clear : instant (stmt_no 0) w.root ≡ None)
+    (once : twice (stmt_no 0) w.root ≡ None)
     (reaction : (J : Signals) (S : State) → fits S w.root ≡ true → Event w.inputs J → WholeReaction w J S) where
   abbrev t : Stmt
   t = w.root

@@ -13,7 +13,6 @@ use Rattle.sheet.specs.Stmt.{Stmt, halt_count}
 use Rattle.sheet.specs.Read.{Sheet, only, root_around}
 use Rattle.sheet.specs.Form.{Proper}
 use Rattle.sheet.proofs.Notions.{Numbered, Exits, proper_numbered, proper_exits}
-use Rattle.sets.specs.declared.Found.TheVariants.{Clear}
 use Rattle.sets.specs.Faults.{instant, twice}
 use Rattle.rules.specs.Rules.{Signals, Halts, Outcome, followed}
 use Rattle.rules.specs.States.{State, halts_of, tick, react, next_state, Event, Agrees, fits}
@@ -30,6 +29,7 @@ use Rattle.agreement.proofs.Restarts.{NoRestart, no_restart}
 use Rattle.berry.proofs.Courses.{start_course, resume_course, react_course}
 use Rattle.berry.proofs.Reactions.{Follows, Moves, resting, body_course, alone_follows, alone_lefts, body_follows, rest_level, rest_haltset}
 use Rattle.berry.proofs.Reactions.{forward, backward}
+use Rattle.std.specs.Prelude.{None}
 
 -- the body with the added halt is numbered and its exits are as the root's
 body_exits : (t : Stmt) → Exits 0 t → Exits 0 (body t)
@@ -40,8 +40,8 @@ pub body_numbered : (t : Stmt) → Numbered (halt_no 0) t → Numbered (halt_no 
 unfolding Numbered
 body_numbered t n = let next : halt_count t ≡ 0 + halt_count t = omega arith in (n, ap halt_no next)
 
-module _ (w : Sheet) (proper : Proper w.inputs w.outputs w.root) (clear : instant (stmt_no 0) w.root ≡ Clear)
-    (once : twice (stmt_no 0) w.root ≡ Clear) where
+module _ (w : Sheet) (proper : Proper w.inputs w.outputs w.root) (clear : instant (stmt_no 0) w.root ≡ None)
+    (once : twice (stmt_no 0) w.root ≡ None) where
   abbrev t : Stmt
   t = w.root
 

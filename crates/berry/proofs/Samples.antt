@@ -16,7 +16,6 @@ use Rattle.sheet.specs.declared.Binary.TheVariants.{Present, Parallel}
 use Rattle.sheet.specs.Stmt.{Stmt, leaf, one, two, size, halt_count, local_count}
 use Rattle.sheet.specs.Read.{only, sheet, signal_of, naming, emitting, exiting, halt_at, local_at, trap_at, of_kind, head_of_kind, inside, and_then, parts, read_stmt}
 use Rattle.sheet.specs.Read.{ended, root_read, after_outputs, after_inputs, read_sheet}
-use Rattle.sets.specs.declared.Found.TheVariants.{At, Clear}
 use Rattle.sets.specs.Codes.{empty, join}
 use Rattle.sets.specs.Static.{K, R, has_halts}
 use Rattle.sets.specs.Faults.{or_else, instant, climbs, first_fault, twice}
@@ -36,6 +35,7 @@ use Rattle.berry.specs.Haltsets.{recovering}
 use Rattle.berry.specs.Modules.{Transition, Move, move_of, LocallyCorrect, Correct, body, stands_for, outputs_of, locals_in, Faithful}
 use Rattle.berry.specs.Programs.{hand_sheet, hand, hand_state, hand_set, no_fixpoint, two_fixpoints, again_sheet, again, again_state, again_set}
 use Rattle.berry.proofs.Promise.{faithful, correct}
+use Rattle.std.specs.Prelude.{Some, None}
 
 -- The accepted program.
 hand_order : List ℕ
@@ -152,7 +152,7 @@ unfolding number_at pick size signal_of naming emitting exiting halt_at local_at
     after_outputs after_inputs read_sheet
 again_read = refl
 
-pub again_faults : (instant (stmt_no 0) again.root ≡ Clear) × (twice (stmt_no 0) again.root ≡ At (stmt_no 1))
+pub again_faults : (instant (stmt_no 0) again.root ≡ None) × (twice (stmt_no 0) again.root ≡ Some (stmt_no 1))
 unfolding pick size K R has_halts or_else instant climbs first_fault twice
 again_faults = (refl, refl)
 

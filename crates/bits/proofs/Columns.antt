@@ -3,30 +3,13 @@ use Prim.Native.Nat.{ℕ, suc, zero, ◌+◌, ◌*◌, ◌/◌, ◌<◌, ◌≤�
 use mathlib.Core.Path.{◌≡◌, refl, sym, ap, ◌∙◌}
 use mathlib.Core.List.{List, [], ◌∷◌, ◌++◌, append_assoc, append-nil}
 use native.Mathlib.Omega.{arith}
-use native.Mathlib.Numerals.{add-one}
-use lib.ListN.{length, get_or, set, take, drop, length-drop, length-append}
-use lib.Seq.{take-suc, take-suc-set, get_or-drop, drop-drop, take_all, paste, paste-suc, sets, sets-eq}
+use lib.ListN.{length, get_or, take, drop, length-append}
+use lib.Seq.{drop-drop, take_all, paste, sets, sets-eq}
 use Rattle.number.proofs.Lists.{sets_append}
 use Rattle.bits.specs.Bits.{words, whole_in, words_of, sets_from, sets_in, column_of}
 use Rattle.bits.proofs.Whole.{words_of_long}
 
--- one word more is copied
-pub copy_more : (s : List ℕ) (base i : ℕ) (ws : List ℕ) → i < length ws → base + i < length s → take i ws ≡ take i (drop base s)
-    → take (i + 1) (set ws i (get_or s (base + i) 0)) ≡ take (i + 1) (drop base s)
-copy_more s base i ws h k e =
-    let l : i < length (drop base s) = rw (length-drop base s) (omega arith) in
-    rw (add-one i, take-suc-set ws i (get_or s (base + i) 0) h, take-suc (drop base s) i 0 l, get_or-drop base s i 0, e)
-
--- all are
-pub copied : (s ws : List ℕ) (base n : ℕ) → length ws ≡ n → take n ws ≡ take n (drop base s) → ws ≡ take n (drop base s)
-copied s ws base n e p = sym (take_all n ws (omega arith)) ∙ p
-
--- one word more is written
-pub wrote_more : (d : List ℕ) (at : ℕ) (s l : List ℕ) (i : ℕ) → at + i < length d → i < length s → l ≡ paste d at s i
-    → set l (at + i) (get_or s i 0) ≡ paste d at s (i + 1)
-wrote_more d at s l i h k e = rw (e, add-one i) (paste-suc d at s i 0 h k)
-
--- all are
+-- a whole list is written
 pub wrote : (d : List ℕ) (at : ℕ) (s : List ℕ) (n : ℕ) → length s ≡ n → at + n ≤ length d → paste d at s n ≡ sets d at s
 wrote d at s n e h =
     let all : take n s ≡ s = take_all n s (omega arith) in

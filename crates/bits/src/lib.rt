@@ -1,7 +1,7 @@
 // Sets of small numbers. `Bits` holds signals or halts, in so many words; a set of codes fits one word, and has functions of its own. No other crate opens a word.
 #![tactic(auto)]
 
-ghost use Rattle.std.specs.Prelude.{◌≡◌, ◌||◌, ◌&&◌, ℕ, ◌+◌, ◌-◌, ◌*◌, ◌/◌, ◌%◌, ◌^◌, ◌<◌, ◌≤◌, min, eqb, ltb, length, take, drop};
+ghost use Rattle.std.specs.Prelude.{◌≡◌, ◌||◌, ◌&&◌, ℕ, ◌+◌, ◌*◌, ◌/◌, ◌%◌, ◌^◌, ◌<◌, ◌≤◌, eqb, ltb, length, take, drop};
 ghost use Rattle.std.proofs.lemmas.List.Edits.{sets};
 ghost use Rattle.bits.specs.Bits.{has, signal_bit, halt_bit, none_from, no_bits, words, width, whole_in, whole, words_of, is_whole};
 ghost use Rattle.bits.specs.Code.{SameAt};
@@ -15,10 +15,7 @@ pub const EMPTY: u64 = 0;
 pub fn member(w: u64, k: u32) -> bool
     ensures { result ≡ has w k }
 {
-    if k >= 64 {
-        return false;
-    }
-    (w >> k) % 2 == 1
+    k < 64 && (w >> k) % 2 == 1
 }
 
 // w and k.
@@ -50,10 +47,7 @@ fn below(n: u32) -> u64
 fn none_from(w: u64, k: u32) -> bool
     ensures { result ≡ none_from k w }
 {
-    if 64 <= k {
-        return true;
-    }
-    w >> k == 0
+    64 <= k || w >> k == 0
 }
 
 // Whether none of the `count` numbers from `from` on is in w.
@@ -69,26 +63,6 @@ fn same_at(w: u64, a: u64, b: u64) -> bool
     ensures { SameAt 64 w a b result }
 {
     a & w == b & w
-}
-
-// a less b, and 0 where b is more: the place in a word of a number counted from an earlier one.
-fn less(a: u32, b: u32) -> u32
-    ensures { result ≡ a - b }
-{
-    if a < b {
-        return 0;
-    }
-    a - b
-}
-
-// k, and 64 where it is more.
-fn at_most_64(k: u32) -> u32
-    ensures { result ≡ min k 64 }
-{
-    if k < 64 {
-        return k;
-    }
-    64
 }
 
 // "signal s at bit s".
@@ -131,7 +105,7 @@ pub fn is_whole(column: &[u64]) -> bool
 
 // A set of signals or of halts, in words, the lowest first.
 #[repr(C)]
-#[derive(Clone, Copy)]
+#[derive(Clone, Copy, Debug, PartialEq, Eq)]
 pub struct Bits {
     words: [u64; WORDS],
 }
@@ -168,11 +142,7 @@ impl Bits {
         ensures { result ≡ has (whole self) k }
     {
         let at = (k / 64) as usize;
-        if WORDS <= at {
-            return false;
-        }
-        let words = self.words;
-        member(words[at], k % 64)
+        at < WORDS && member(self.words[at], k % 64)
     }
 
     // It and k. The first test never holds, and it tells the compiler which word is meant where there is one.
@@ -196,25 +166,21 @@ impl Bits {
         let mine = self.words;
         let others = other.words;
         let mut words = [0u64; WORDS];
-        let mut i: usize = 0;
-        while i < WORDS {
-            words[i] = mine[i] | others[i];
-            i += 1;
+        for (i, word) in words.iter_mut().enumerate() {
+            *word = mine[i] | others[i];
         }
         Bits { words }
     }
 
-    // What is in both.
+    // What is in both. It has a loop of its own beside `join`: one loop with the operator handed in would need a longer contract than both.
     pub fn meet(self, other: Bits) -> Bits
         ensures { (j : ℕ) → has (whole result) j ≡ (has (whole self) j && has (whole other) j) }
     {
         let mine = self.words;
         let others = other.words;
         let mut words = [0u64; WORDS];
-        let mut i: usize = 0;
-        while i < WORDS {
-            words[i] = mine[i] & others[i];
-            i += 1;
+        for (i, word) in words.iter_mut().enumerate() {
+            *word = mine[i] & others[i];
         }
         Bits { words }
     }
@@ -225,10 +191,8 @@ impl Bits {
         ensures { (j : ℕ) → has (whole result) j ≡ ltb j n }
     {
         let mut words = [0u64; WORDS];
-        let mut i: usize = 0;
-        while i < WORDS {
-            words[i] = below(less(n, 64 * i as u32));
-            i += 1;
+        for (i, word) in words.iter_mut().enumerate() {
+            *word = below(n.saturating_sub(64 * i as u32));
         }
         Bits { words }
     }
@@ -237,13 +201,10 @@ impl Bits {
     pub fn none_from(self, k: u32) -> bool
         ensures { result ≡ none_from k (whole self) }
     {
-        let words = self.words;
-        let mut i: usize = 0;
-        while i < WORDS {
-            if !none_from(words[i], less(k, 64 * i as u32)) {
+        for (i, word) in self.words.iter().enumerate() {
+            if !none_from(*word, k.saturating_sub(64 * i as u32)) {
                 return false;
             }
-            i += 1;
         }
         true
     }
@@ -253,16 +214,13 @@ impl Bits {
         requires { from + count ≤ width }
         ensures { result ≡ no_bits count from (has (whole self)) }
     {
-        let words = self.words;
-        let mut i: usize = 0;
-        while i < WORDS {
+        for (i, word) in self.words.iter().enumerate() {
             let base = 64 * i as u32;
-            let first = at_most_64(less(from, base));
-            let past = at_most_64(less(from + count, base));
-            if !none_in(words[i], first, past - first) {
+            let first = from.saturating_sub(base).min(64);
+            let past = (from + count).saturating_sub(base).min(64);
+            if !none_in(*word, first, past - first) {
                 return false;
             }
-            i += 1;
         }
         true
     }
@@ -283,15 +241,12 @@ impl Bits {
     pub fn same_at(self, a: Bits, b: Bits) -> bool
         ensures { SameAt width (whole self) (whole a) (whole b) result }
     {
-        let words = self.words;
         let first = a.words;
         let second = b.words;
-        let mut i: usize = 0;
-        while i < WORDS {
-            if !same_at(words[i], first[i], second[i]) {
+        for (i, word) in self.words.iter().enumerate() {
+            if !same_at(*word, first[i], second[i]) {
                 return false;
             }
-            i += 1;
         }
         true
     }
@@ -302,11 +257,7 @@ impl Bits {
         ensures { whole result ≡ whole_in (take words (drop (n * words) column.now)) }
     {
         let mut words = [0u64; WORDS];
-        let mut i: usize = 0;
-        while i < WORDS {
-            words[i] = column[n * WORDS + i];
-            i += 1;
-        }
+        words.copy_from_slice(&column[n * WORDS..(n + 1) * WORDS]);
         Bits { words }
     }
 
@@ -315,11 +266,6 @@ impl Bits {
         requires { n * words + words ≤ length column.old }
         ensures { column.new ≡ sets column.old (n * words) (words_of words (whole self)) }
     {
-        let words = self.words;
-        let mut i: usize = 0;
-        while i < WORDS {
-            column[n * WORDS + i] = words[i];
-            i += 1;
-        }
+        column[n * WORDS..(n + 1) * WORDS].copy_from_slice(&self.words);
     }
 }

@@ -5,8 +5,8 @@ use mathlib.Core.Bool.{true, false}
 use mathlib.Core.List.{List, [], ◌∷◌, ◌++◌, map}
 use native.Mathlib.Omega.{arith}
 use native.Mathlib.Numerals.{add-one}
-use lib.ListN.{length, set, length-map, replicate}
-use lib.Seq.{sets, length-sets}
+use lib.ListN.{length, set, length-map, length-append, replicate}
+use lib.Seq.{sets}
 use Rattle.number.specs.Counts.{cell_no, signal_no, stmt_no, halt_no}
 use Rattle.number.specs.Number.{pick}
 use Rattle.number.specs.Refusals.{fault}
@@ -26,16 +26,19 @@ use Rattle.cells.specs.declared.Cell.TheVariants.{Low, High, Input, Gate, Regist
 use Rattle.cells.specs.declared.Gate.TheVariants.{Or, Butnot}
 use Rattle.cells.specs.Cells.{low, high}
 use Rattle.cells.specs.Words.{word}
-use Rattle.gates.specs.Store.{WroteCells}
-use Rattle.gates.proofs.Laws.{wrote_more, set_below}
+use Rattle.gates.specs.declared.Column.{Column}
+use Rattle.gates.proofs.Laws.{stored_more, set_below}
 use Rattle.parts.specs.declared.Returned.{Returned}
-use Rattle.parts.specs.Equations.{Built, list_of}
+use Rattle.parts.specs.Equations.{Built, list_of, build}
 use Rattle.parts.specs.Contract.{nets, Builds, UnaryNamed, BinaryNamed}
-use Rattle.builder.specs.declared.NetlistBuilt.{NetlistBuilt}
-use Rattle.builder.specs.declared.NetlistBuilt.TheVariants.{Cells, Refused}
+use Rattle.parts.proofs.Parts.{builds_as}
 use Rattle.builder.specs.Netlist.{input_cells, signal_cells, root_of, boot_cells, netlist}
-use Rattle.builder.specs.Walking.{Named, InShape, Buildable, Task, Does}
-use Rattle.builder.specs.Contract.{OfSheet, SomeSheet, room_for, Whole, DoesNetlist}
+use Rattle.builder.specs.Walking.{Named, InShape, Buildable, Does}
+use Rattle.builder.specs.Contract.{OfSheet, SomeSheet, room_for, DoesNetlist}
+use Rattle.number.specs.declared.Fault.{Fault}
+use Rattle.std.specs.Prelude.{Result, Ok, Err}
+use Rattle.sets.specs.declared.Both.{Both}
+use Rattle.sheet.specs.declared.Row.{Row}
 
 -- The loops: what is left to be written, once written, makes the whole. First that over the inputs, at signal s:
 pub record InputLoop (l₀ l : List ℕ) (I s : ℕ) : Type 0 where
@@ -68,10 +71,6 @@ none_left l I s h = let none : I + 1 - s ≡ 0 = omega arith in rw none refl
 pub inputs_end : {l₀ l : List ℕ} {I s : ℕ} → InputLoop l₀ l I s → I < s → l ≡ sets l₀ 2 (map word (input_cells 1 I))
 inputs_end {l₀} {l} {I} {s} h past = sym (none_left l I s past) ∙ h.rest
 
-pub inputs_length : {l₀ l : List ℕ} {I s : ℕ} → InputLoop l₀ l I s → length l ≡ length l₀
-inputs_length {l₀} {l} {I} {s} h =
-    sym (length-sets l (suc s) (map word (input_cells s (I + 1 - s)))) ∙ ap length h.rest ∙ length-sets l₀ 2 (map word (input_cells 1 I))
-
 -- then that over the other signals
 pub record SignalLoop (L : List CellNo) (l₀ l : List ℕ) (from end s : ℕ) : Type 0 where
   pub rest : sets l (suc s) (map word (signal_cells L s (end - s))) ≡ sets l₀ (suc from) (map word (signal_cells L from (end - from)))
@@ -94,11 +93,6 @@ module _ {L : List CellNo} {l₀ l : List ℕ} {from end s : ℕ} (h : SignalLoo
 
   pub signals_end : end ≤ s → l ≡ sets l₀ (suc from) (map word (signal_cells L from (end - from)))
   signals_end past = sym (no_signal L l end s past) ∙ h.rest
-
-  pub signals_length : length l ≡ length l₀
-  signals_length =
-      sym (length-sets l (suc s) (map word (signal_cells L s (end - s)))) ∙ ap length h.rest
-      ∙ length-sets l₀ (suc from) (map word (signal_cells L from (end - from)))
 
 -- how many cells these are
 pub length_inputs : (s k : ℕ) → length (input_cells s k) ≡ k
@@ -129,36 +123,45 @@ pub head_wrote : (I n : ℕ) (l : List ℕ) {l₁ l₂ l₃ l₄ l₅ : List ℕ
 head_wrote I n l e₁ e₂ e₃ e₄ e₅ = let next : 2 + n ≡ suc (1 + n) = omega arith in e₅ ∙ rw (next, e₄, e₃, e₂, e₁) refl
 
 -- the head, the root and the foot
-whole_wrote : (I U : ℕ) (t : Stmt) {l l₁ l₂ l₃ ls : List ℕ} {b : Returned}
-    → l₁ ≡ sets (with_inputs I l) (1 + (1 + I + U)) (map word (boot_cells (1 + I + U))) → Builds (root_of (1 + I + U) t) l₁ l₂ ls (3 + (1 + I + U)) b
-    → l₃ ≡ sets l₂ (2 + I) (map word (signal_cells (nets ls) (1 + I) U)) → WroteCells l l₃ 0 b.count (netlist I U t)
+whole_wrote : (I U : ℕ) (t : Stmt) (l : List ℕ) {l₃ ls : List ℕ} {c c' : Column} {b : Returned}
+    → c.cells.now ≡ sets (with_inputs I l) (1 + (1 + I + U)) (map word (boot_cells (1 + I + U))) → c.count ≡ 3 + (1 + I + U)
+    → Builds (root_of (1 + I + U) t) c c' ls b → l₃ ≡ sets c'.cells.now (2 + I) (map word (signal_cells (nets ls) (1 + I) U))
+    → (l₃ ≡ sets l 0 (map word (netlist I U t))) × (c'.count ≡ length (netlist I U t))
 unfolding netlist
-whole_wrote I U t {l} {l₁} {l₂} {l₃} {b = r} head b foot =
+whole_wrote I U t l {l₃} {ls} {c} {c'} head start b foot =
     let before : List ℕ = with_inputs I l in
     let root : Built = root_of (1 + I + U) t in
-    let S : List Cell = signal_cells root.lists (1 + I) U in
-    let C : List Cell = boot_cells (1 + I + U) ++ root.cells in
-    let with_s : List ℕ = sets before (2 + I) (map word S) in
-    let inputs : WroteCells l before 0 (2 + I) (Low ∷ (High ∷ input_cells 1 I)) = record { stored = refl; counted = omega (arith, length_inputs 1 I) } in
-    let boot : WroteCells before l₁ (1 + (1 + I + U)) (3 + (1 + I + U)) (boot_cells (1 + I + U)) = record { stored = head; counted = omega arith } in
-    let rest : WroteCells before l₂ (1 + (1 + I + U)) r.count C = wrote_more boot b.wrote in
-    let signals : WroteCells before with_s (2 + I) (1 + (1 + I + U)) S = record { stored = refl; counted = omega (arith, length_signals root.lists (1 + I) U) } in
-    let few : 2 + I + length (map word S) ≤ 1 + (1 + I + U) = omega (arith, length-map S word, length_signals root.lists (1 + I) U) in
-    let last : l₃ ≡ sets with_s (1 + (1 + I + U)) (map word C) =
-    foot ∙ rw (b.lists, rest.stored) (sets_first before (2 + I) (1 + (1 + I + U)) (map word C) (map word S) few) in
-    wrote_more inputs (wrote_more signals (record { stored = last; counted = rest.counted }))
+    let inputs : List Cell = Low ∷ (High ∷ input_cells 1 I) in
+    let signals : List Cell = signal_cells root.lists (1 + I) U in
+    let boot : List Cell = boot_cells (1 + I + U) in
+    let with_s : List ℕ = sets before (2 + I) (map word signals) in
+    let few : 2 + I + length (map word signals) ≤ 1 + (1 + I + U) = omega (arith, length-map signals word, length_signals root.lists (1 + I) U) in
+    let rest : c'.cells.now ≡ sets before (1 + (1 + I + U)) (map word (boot ++ root.cells)) =
+    stored_more before (1 + (1 + I + U)) boot root.cells head (omega arith) b.wrote.stored in
+    let last : l₃ ≡ sets with_s (1 + (1 + I + U)) (map word (boot ++ root.cells)) =
+    foot ∙ rw (b.lists, rest) (sets_first before (2 + I) (1 + (1 + I + U)) (map word (boot ++ root.cells)) (map word signals) few) in
+    let others : l₃ ≡ sets before (2 + I) (map word (signals ++ (boot ++ root.cells))) =
+    stored_more before (2 + I) signals (boot ++ root.cells) refl (omega (arith, length_signals root.lists (1 + I) U)) last in (
+      stored_more l 0 inputs (signals ++ (boot ++ root.cells)) refl (omega (arith, length_inputs 1 I)) others,
+      omega (
+        arith,
+        b.wrote.counted,
+        length_inputs 1 I,
+        length_signals root.lists (1 + I) U,
+        length-append (input_cells 1 I) (signals ++ (boot ++ root.cells)),
+        length-append signals (boot ++ root.cells),
+        length-append boot root.cells,
+      ),
+    )
 
 -- the answer
-pub over : (k : ℕ) → many_cells k ≡ true → Refused (fault Room 0) ≡ room_for k
+pub over : (k : ℕ) → many_cells k ≡ true → Err (fault Room 0) ≡ room_for k
 unfolding room_for pick
 over k h = rw h refl
 
-pub not_over : (k : ℕ) → many_cells k ≡ false → Cells k ≡ room_for k
+pub not_over : (k : ℕ) → many_cells k ≡ false → Ok k ≡ room_for k
 unfolding room_for pick
 not_over k h = rw h refl
-
-whole : {cs : List Cell} {l l' : List ℕ} {count : ℕ} {r : NetlistBuilt} → WroteCells l l' 0 count cs → r ≡ room_for count → Whole cs l l' r
-whole {cs} {count = count} w e = let all : count ≡ length cs = omega (arith, w.counted) in record { answer = e ∙ ap room_for all; stored = w.stored }
 
 -- What the code asks of a statement is so of a sheet's.
 named : (i n : ℕ) (t : Stmt) → n ≤ max_signals → Scoped i n t → Named t
@@ -181,7 +184,7 @@ named i n (two b p q) h c = (binary b c.0, named i n p h c.1, named i n q h c.2)
     binary (Present s) c = omega arith
     binary Parallel c = tt
 
-module _ {rows ms : List ℕ} {I n O : ℕ} {t : Stmt} (is : OfSheet rows ms I n O t) where
+module _ {rows : List Row} {ms : List Both} {I n O : ℕ} {t : Stmt} (is : OfSheet rows ms I n O t) where
   pub sheet_fit : InShape ms (stmt_no 0) t
   sheet_fit =
       record {
@@ -193,45 +196,41 @@ module _ {rows ms : List ℕ} {I n O : ℕ} {t : Stmt} (is : OfSheet rows ms I n
   pub sheet_signals : (I < n) × (n ≤ max_signals)
   sheet_signals = (omega (arith, is.signals), omega (arith, is.signals, is.proper.signals))
 
-pub sheet_ready : {rows ms ls : List ℕ} {I n : ℕ} (w : SomeSheet rows ms I n) → length ls ≡ max_signals → Buildable rows ms ls (stmt_no 0) (3 + n)
+pub sheet_ready : {rows : List Row} {ms : List Both} {ls : List ℕ} {I n : ℕ} (w : SomeSheet rows ms I n) → length ls ≡ max_signals → Buildable rows ms ls (stmt_no 0) (3 + n)
 sheet_ready {n = n} w long =
     let few : n ≤ max_signals = (sheet_signals w.is).1 in
     record {
       first = halt_no 0;
       stmt = w.stmt;
       holds = w.is.holds;
+      small = omega (arith, w.is.proper.statements);
       fit = sheet_fit w.is;
       lists = long;
       room = omega (arith, w.is.proper.statements);
     }
 
--- the walk of the root
-abbrev root_task : List ℕ → List ℕ → ℕ → List ℕ → Task
-root_task rows ms n l =
-    record {
+-- the whole
+pub netlist_does : {rows : List Row} {ms : List Both} {l l₃ l₄ ls : List ℕ} {c c' : Column} {b : Returned} {r : Result ℕ Fault} (I n : ℕ)
+    → c.cells.now ≡ sets (with_inputs I l) (1 + n) (map word (boot_cells n)) → c.count ≡ 3 + n
+    → Does (record {
       rows = rows;
       statics = ms;
       stmt = stmt_no 0;
-      next = 3 + n;
-      go = cell_no (2 + n);
-      res = high;
-      kill = low;
-      cells = l;
+      wires = record { go = cell_no (2 + n); res = high; kill = low };
+      column = c;
       lists = replicate max_signals 0;
-    }
-
--- the whole
-pub netlist_does : {rows ms l l₁ l₂ l₃ ls : List ℕ} {b : Returned} {r : NetlistBuilt} (I n : ℕ)
-    → l₁ ≡ sets (with_inputs I l) (1 + n) (map word (boot_cells n))
-    → Does (root_task rows ms n l₁) l₂ ls b
-    → l₃ ≡ sets l₂ (suc (1 + I)) (map word (signal_cells (nets ls) (1 + I) (n - (1 + I)))) → r ≡ room_for b.count → DoesNetlist rows ms I n l l₃ r
+    }) c' ls b
+    → l₄ ≡ l₃ → l₃ ≡ sets c'.cells.now (suc (1 + I)) (map word (signal_cells (nets ls) (1 + I) (n - (1 + I)))) → r ≡ room_for c'.count
+    → DoesNetlist rows ms I n l l₄ r
 unfolding root_of
-netlist_does {rows} {ms} {l} {l₁} {l₂} {l₃} {ls} {b = r} I n head d foot e = record {
+netlist_does {rows} {ms} {l} {ls = ls} {c = c} {c' = c'} {b = b} I n head start d last foot e = record {
   does = λ O t is.
       let U : ℕ = O + local_count t in
       let all : n ≡ 1 + I + U = omega (arith, is.signals) in
       let others : n - (1 + I) ≡ U = omega arith in
       let next : suc (1 + I) ≡ 2 + I = omega arith in
-      let b : Builds (root_of n t) l₁ l₂ ls (3 + n) r = d.does (halt_no 0) t is.holds (sheet_fit is) in
-      whole (whole_wrote I U t (rw all at head) (rw all at b) (rw (others, next) at foot)) e;
+      let root : Builds (build t (3 + n) (cell_no (2 + n)) high low (nets (replicate max_signals 0))) c c' ls b =
+      builds_as (rw start) (d.does (halt_no 0) t is.holds (sheet_fit is)) in
+      let w = whole_wrote I U t l (rw all at head) (omega (arith, start, all)) (rw all at root) (rw (others, next) at foot) in
+      record { answer = e ∙ ap room_for w.1; stored = last ∙ w.0 };
 }

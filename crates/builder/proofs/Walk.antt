@@ -5,7 +5,7 @@ use mathlib.Core.Bool.{Bool}
 use mathlib.Core.List.{List}
 use native.Mathlib.Omega.{arith}
 use lib.ListN.{length, length-append}
-use Rattle.number.specs.Counts.{of_stmt}
+use Rattle.number.specs.Counts.{cell_no, of_stmt}
 use Rattle.number.specs.declared.CellNo.{CellNo}
 use Rattle.number.specs.declared.StmtNo.{StmtNo}
 use Rattle.number.specs.declared.HaltNo.{HaltNo}
@@ -20,23 +20,27 @@ use Rattle.sheet.specs.declared.Binary.TheVariants.{Sequence, Present, Parallel}
 use Rattle.sheet.specs.declared.Head.TheVariants.{Zero, One, Two}
 use Rattle.sheet.specs.Stmt.{Stmt, leaf, one, two, size, halt_count}
 use Rattle.sheet.specs.Read.{further}
-use Rattle.sheet.specs.Rows.{Holds, row_at}
-use Rattle.sheet.proofs.Walk.{size_pos, within, few_numbers, is_leaf, is_one, is_two, IsOne, IsTwo}
+use Rattle.sheet.specs.Rows.{stmt_span, Holds, row_at}
+use Rattle.sheet.proofs.Walk.{size_pos, within, is_leaf, is_one, is_two, IsOne, IsTwo}
 use Rattle.sets.specs.Words.{LowLeaf, Low, Entered, Kept}
 use Rattle.cells.specs.Cells.{signal_cell}
 use Rattle.cells.specs.declared.Gate.TheVariants.{And, Butnot}
 use Rattle.gates.specs.Folding.{New, and_at, butnot_at}
 use Rattle.gates.specs.Store.{parallel_cells}
+use Rattle.gates.specs.declared.Column.{Column}
+use Rattle.parts.specs.declared.Wires.{Wires}
 use Rattle.parts.specs.declared.Returned.{Returned}
 use Rattle.parts.specs.declared.Opened.{Opened}
 use Rattle.parts.specs.Equations.{Built, past, given, build}
-use Rattle.parts.specs.Contract.{nets, own_cells, Begun, Builds, open_one, open_two, go_of, Opens, ClosesOne, ClosesTwo, LeafNamed, UnaryNamed, BinaryNamed}
+use Rattle.parts.specs.Contract.{nets, own_cells, Builds, open_one, open_two, go_of, Opens, OpensTwo, ClosesOne, ClosesTwo, LeafNamed, UnaryNamed, BinaryNamed}
 use Rattle.parts.proofs.Parts.{builds_as, one_builds, two_builds}
 use Rattle.builder.specs.Walking.{Named, InShape, Buildable, Task, Does}
 use Rattle.builder.proofs.Few.{gate_few, sized}
+use Rattle.sets.specs.declared.Both.{Both}
+use Rattle.sheet.specs.declared.Row.{Row}
 
 -- what the code asks of a statement it may ask of the parts
-module _ {ms : List ℕ} {n : StmtNo} where
+module _ {ms : List Both} {n : StmtNo} where
   fit_part : (u : Unary) (p : Stmt) → InShape ms n (one u p) → InShape ms (further n 1) p
   unfolding Low Named Kept
   fit_part u p f = record { low = f.low; named = f.named.1; kept = f.kept.1 }
@@ -54,55 +58,55 @@ module _ {ms : List ℕ} {n : StmtNo} where
   unfolding Kept
   entry b p q f = f.kept.0
 
--- The walk of a part that stands at row j and begins at cell k with the go g, where its statement was opened as o.
-abbrev inner : List ℕ → List ℕ → Opened → StmtNo → ℕ → CellNo → List ℕ → List ℕ → Task
-inner rows ms o j k g l ls = record { rows = rows; statics = ms; stmt = j; next = k; go = g; res = o.res; kill = o.kill; cells = l; lists = ls }
+-- The walk of a part that stands at row j and takes the wires v.
+abbrev inner : List Row → List Both → StmtNo → Wires → Column → List ℕ → Task
+inner rows ms j v c ls = record { rows = rows; statics = ms; stmt = j; wires = v; column = c; lists = ls }
 
 -- What the walk is to build where the statement t stands.
 abbrev built : Task → Stmt → Built
-built w t = build t w.next w.go w.res w.kill (nets w.lists)
+built w t = build t w.column.count w.wires.go w.wires.res w.wires.kill (nets w.lists)
 
 -- What it does at a row, from what its calls do.
 module _ {w : Task} where
-  pub leaf_does : {l' ls' : List ℕ} {b : Returned} {x : Leaf} → (row_at w.rows w.stmt).head ≡ Zero x
-      → Builds (built w (leaf x)) w.cells l' ls' w.next b → Does w l' ls' b
-  leaf_does e b = record { does = λ a t h f. builds_as (ap (built w) (is_leaf w.rows w.stmt a t h e)) b }
+  pub leaf_does : {c' : Column} {ls' : List ℕ} {b : Returned} {x : Leaf} → (row_at w.rows w.stmt).head ≡ Zero x
+      → Builds (built w (leaf x)) w.column c' ls' b → Does w c' ls' b
+  leaf_does e b = record { same = b.wrote.same; does = λ a t h f. builds_as (ap (built w) (is_leaf w.rows w.stmt a t h e)) b }
 
-  pub one_does : {l₁ l₂ l₃ ls' : List ℕ} {o : Opened} {p b : Returned} {u : Unary} → (row_at w.rows w.stmt).head ≡ One u
-      → Opens (open_one u w.next w.go w.res w.kill) w.cells l₁ w.next o
-      → Does (inner w.rows w.statics o (further w.stmt 1) o.count o.go l₁ w.lists) l₂ ls' p
-      → ClosesOne u w.next w.go w.res l₂ l₃ p b → Does w l₃ ls' b
-  one_does {u = u} e o d c = record {
+  pub one_does : {c₁ c₂ c₃ : Column} {ls' : List ℕ} {v : Wires} {n : CellNo} {p b : Returned} {u : Unary} → (row_at w.rows w.stmt).head ≡ One u
+      → n ≡ cell_no w.column.count → Opens (open_one u w.column.count w.wires.go w.wires.res w.wires.kill) w.column c₁ v
+      → Does (inner w.rows w.statics (further w.stmt 1) v c₁ w.lists) c₂ ls' p → ClosesOne u n w.wires c₂ c₃ p b → Does w c₃ ls' b
+  one_does {u = u} e en o d k = record {
+    same = k.same ∙ d.same ∙ o.wrote.same;
     does = λ a t h f.
-        let k = is_one w.rows w.stmt a t h e in
-        let p : Stmt = k.part in
-        let fit : InShape w.statics w.stmt (one u p) = subst (λ (v : Stmt). InShape w.statics w.stmt v) k.is f in
-        builds_as (ap (built w) k.is) (one_builds (nets w.lists) u p w.go w.res w.kill o (d.does a p k.holds (fit_part u p fit)) c);
+        let i = is_one w.rows w.stmt a t h e in
+        let p : Stmt = i.part in
+        let fit : InShape w.statics w.stmt (one u p) = subst (λ (v : Stmt). InShape w.statics w.stmt v) i.is f in
+        builds_as (ap (built w) i.is) (one_builds (nets w.lists) u p w.wires en o (d.does a p i.holds (fit_part u p fit)) k);
   }
 
-  pub two_does : {l₁ l₂ l₃ l₄ ls₁ ls₂ : List ℕ} {o : Opened} {g : CellNo} {p q s : Returned} {b : Binary} {j : StmtNo} (keep : ℕ)
-      → (row_at w.rows w.stmt).head ≡ Two b → Opens (open_two b w.next w.go w.res w.kill) w.cells l₁ w.next o
-      → Does (inner w.rows w.statics o (further w.stmt 1) o.count o.go l₁ w.lists) l₂ ls₁ p
-      → j ≡ (row_at w.rows (further w.stmt 1)).end
-      → g ≡ go_of b o.other p.codes → Does (inner w.rows w.statics o j p.count g l₂ ls₁) l₃ ls₂ q
+  pub two_does : {c₁ c₂ c₃ c₄ : Column} {ls₁ ls₂ : List ℕ} {o : Opened} {n g : CellNo} {p q s : Returned} {b : Binary} {j : StmtNo} (keep : ℕ)
+      → (row_at w.rows w.stmt).head ≡ Two b → n ≡ cell_no w.column.count
+      → OpensTwo (open_two b w.column.count w.wires.go w.wires.res w.wires.kill) w.column c₁ o
+      → Does (inner w.rows w.statics (further w.stmt 1) o.first c₁ w.lists) c₂ ls₁ p → j ≡ (row_at w.rows (further w.stmt 1)).end
+      → g ≡ go_of b o.other p.codes → Does (inner w.rows w.statics j (record o.first { go = g }) c₂ ls₁) c₃ ls₂ q
       → ((t : Stmt) → Low t → Entered w.statics w.stmt t → has keep ≡ given t)
-      → ClosesTwo b (has keep) (record { start = w.next; go = w.go; kill = w.kill }) l₃ l₄ p q s → Does w l₄ ls₂ s
-  two_does {l₃ = l₃} {l₄ = l₄} {p = p} {q = q} {s = s} {b = b} {j = j} keep e o d₁ ej eg d₂ kept c =
+      → ClosesTwo b (has keep) n w.wires c₃ c₄ p q s → Does w c₄ ls₂ s
+  two_does {c₃ = c₃} {c₄ = c₄} {n = n} {p = p} {q = q} {s = s} {b = b} {j = j} keep e en o d₁ ej eg d₂ kept k =
       record {
+        same = k.same ∙ d₂.same ∙ d₁.same ∙ o.opens.wrote.same;
         does = λ a t h f.
-            let rows : List ℕ = w.rows in
-            let k = is_two rows w.stmt a t h e in
-            let x : Stmt = k.left in
-            let y : Stmt = k.right in
-            let fit : InShape w.statics w.stmt (two b x y) = subst (λ (v : Stmt). InShape w.statics w.stmt v) k.is f in
-            let place : j ≡ further w.stmt (1 + size x) = ej ∙ k.second in
-            let holds : Holds rows j (halts_on a (halt_count x)) y = subst⁻¹ (λ (v : StmtNo). Holds rows v (halts_on a (halt_count x)) y) place k.holds_right in
+            let rows : List Row = w.rows in
+            let i = is_two rows w.stmt a t h e in
+            let x : Stmt = i.left in
+            let y : Stmt = i.right in
+            let fit : InShape w.statics w.stmt (two b x y) = subst (λ (v : Stmt). InShape w.statics w.stmt v) i.is f in
+            let place : j ≡ further w.stmt (1 + size x) = ej ∙ i.second in
+            let holds : Holds rows j (halts_on a (halt_count x)) y = subst⁻¹ (λ (v : StmtNo). Holds rows v (halts_on a (halt_count x)) y) place i.holds_right in
             let right : InShape w.statics j y = subst⁻¹ (λ (v : StmtNo). InShape w.statics v y) place (fit_right b x y fit) in
-            let around : Begun = record { start = w.next; go = w.go; kill = w.kill } in
-            let closed : ClosesTwo b (given (two b x y)) around l₃ l₄ p q s =
-            subst (λ (v : ℕ → Bool). ClosesTwo b v around l₃ l₄ p q s) (kept (two b x y) fit.low (entry b x y fit)) c in
-            builds_as (ap (built w) k.is)
-            (two_builds (nets w.lists) b x y w.go w.res w.kill o (d₁.does a x k.holds_left (fit_left b x y fit)) eg
+            let closed : ClosesTwo b (given (two b x y)) n w.wires c₃ c₄ p q s =
+            subst (λ (v : ℕ → Bool). ClosesTwo b v n w.wires c₃ c₄ p q s) (kept (two b x y) fit.low (entry b x y fit)) k in
+            builds_as (ap (built w) i.is)
+            (two_builds (nets w.lists) b x y w.wires en o (d₁.does a x i.holds_left (fit_left b x y fit)) eg
             (d₂.does (halts_on a (halt_count x)) y holds right) closed);
       }
 
@@ -122,18 +126,18 @@ open_two_few (Present s) n g r i =
 open_two_few Parallel n g r i = omega arith
 
 -- what a walk builds has few cells
-does_few : {w : Task} {l' ls' : List ℕ} {b : Returned} (a : HaltNo) (p : Stmt) → Holds w.rows w.stmt a p
-    → InShape w.statics w.stmt p → Does w l' ls' b
-    → b.count ≤ w.next + own_cells * size p
+does_few : {w : Task} {c' : Column} {ls' : List ℕ} {b : Returned} (a : HaltNo) (p : Stmt) → Holds w.rows w.stmt a p
+    → InShape w.statics w.stmt p → Does w c' ls' b → c'.count ≤ w.column.count + own_cells * size p
 does_few {w} a p h f d =
-    omega (arith, (d.does a p h f).wrote.counted, (sized p w.next w.go w.res w.kill (nets w.lists) f.low).few)
+    let v : Wires = w.wires in
+    omega (arith, (d.does a p h f).wrote.counted, (sized p w.column.count v.go v.res v.kill (nets w.lists) f.low).few)
 
-module _ {rows ms ls : List ℕ} {n : StmtNo} {count : ℕ} (ready : Buildable rows ms ls n count) where
+module _ {rows : List Row} {ms : List Both} {ls : List ℕ} {n : StmtNo} {count : ℕ} (ready : Buildable rows ms ls n count) where
   pub ready_within : of_stmt n < length rows
   ready_within = within rows n ready.first ready.stmt ready.holds
 
-  pub ready_number : of_stmt n < 4096
-  ready_number = omega (arith, few_numbers rows n ready.first ready.stmt ready.holds)
+  pub ready_number : of_stmt n < stmt_span
+  ready_number = omega (arith, ready.small)
 
   pub ready_open : count + own_cells < 65536
   ready_open = omega (arith, size_pos ready.stmt, ready.room)
@@ -162,26 +166,27 @@ module _ {rows ms ls : List ℕ} {n : StmtNo} {count : ℕ} (ready : Buildable r
     unfolding Named
     ready_unary = fit_one.named.0
 
-    module _ {l l₁ : List ℕ} {o : Opened} (g r i : CellNo) (opens : Opens (open_one u count g r i) l l₁ count o) where
-      pub ready_one : Buildable rows ms ls (further n 1) o.count
+    module _ {c c₁ : Column} {v : Wires} (w : Wires) (start : c.count ≡ count) (opens : Opens (open_one u c.count w.go w.res w.kill) c c₁ v) where
+      pub ready_one : Buildable rows ms ls (further n 1) c₁.count
       ready_one =
           record {
             first = ready.first;
             stmt = the_one.part;
             holds = the_one.holds;
+            small = omega (arith, ready.small, size_one);
             fit = there_one;
             lists = ready.lists;
-            room = omega (arith, opens.wrote.counted, open_one_few u count g r i, ready.room, size_one);
+            room = omega (arith, start, opens.wrote.counted, open_one_few u c.count w.go w.res w.kill, ready.room, size_one);
           }
 
-      pub ready_close_one : {l₂ ls' : List ℕ} {p : Returned} → Does (inner rows ms o (further n 1) o.count o.go l₁ ls) l₂ ls' p
-          → p.count + 3 < 65536
+      pub ready_close_one : {c₂ : Column} {ls' : List ℕ} {p : Returned} → Does (inner rows ms (further n 1) v c₁ ls) c₂ ls' p → c₂.count + 3 < 65536
       ready_close_one d =
           omega (
             arith,
             does_few ready.first the_one.part the_one.holds there_one d,
+            start,
             opens.wrote.counted,
-            open_one_few u count g r i,
+            open_one_few u c.count w.go w.res w.kill,
             ready.room,
             size_one,
           )
@@ -210,21 +215,25 @@ module _ {rows ms ls : List ℕ} {n : StmtNo} {count : ℕ} (ready : Buildable r
     pub ready_first : of_stmt n + 1 < length rows
     ready_first = within rows (further n 1) ready.first the_two.left the_two.holds_left
 
-    module _ {l l₁ : List ℕ} {o : Opened} (g r i : CellNo) (opens : Opens (open_two b count g r i) l l₁ count o) where
-      pub ready_left : Buildable rows ms ls (further n 1) o.count
+    module _ {c c₁ : Column} {o : Opened} (w : Wires) (start : c.count ≡ count) (opens : OpensTwo (open_two b c.count w.go w.res w.kill) c c₁ o) where
+      opened : c₁.count ≤ count + 2
+      opened = omega (arith, start, opens.opens.wrote.counted, open_two_few b c.count w.go w.res w.kill)
+
+      pub ready_left : Buildable rows ms ls (further n 1) c₁.count
       ready_left =
           record {
             first = ready.first;
             stmt = the_two.left;
             holds = the_two.holds_left;
+            small = omega (arith, ready.small, size_two);
             fit = there_left;
             lists = ready.lists;
-            room = omega (arith, opens.wrote.counted, open_two_few b count g r i, ready.room, size_two);
+            room = omega (arith, opened, ready.room, size_two);
           }
 
-      module _ {l₂ ls₁ : List ℕ} {p : Returned} (d₁ : Does (inner rows ms o (further n 1) o.count o.go l₁ ls) l₂ ls₁ p) {j : StmtNo}
+      module _ {c₂ : Column} {ls₁ : List ℕ} {p : Returned} (d₁ : Does (inner rows ms (further n 1) o.first c₁ ls) c₂ ls₁ p) {j : StmtNo}
           (ej : j ≡ (row_at rows (further n 1)).end) where
-        left_few : p.count ≤ o.count + own_cells * size the_two.left
+        left_few : c₂.count ≤ c₁.count + own_cells * size the_two.left
         left_few = does_few ready.first the_two.left the_two.holds_left there_left d₁
 
         place : j ≡ further n (1 + size the_two.left)
@@ -237,30 +246,33 @@ module _ {rows ms ls : List ℕ} {n : StmtNo} {count : ℕ} (ready : Buildable r
         fit_there : InShape ms j the_two.right
         fit_there = subst⁻¹ (λ (w : StmtNo). InShape ms w the_two.right) place (fit_right b the_two.left the_two.right fit_two)
 
-        pub ready_right : length ls₁ ≡ max_signals → Buildable rows ms ls₁ j p.count
+        at_right : of_stmt j ≡ of_stmt n + (1 + size the_two.left)
+        at_right = ap of_stmt place
+
+        pub ready_right : length ls₁ ≡ max_signals → Buildable rows ms ls₁ j c₂.count
         ready_right long =
             record {
               first = halts_on ready.first (halt_count the_two.left);
               stmt = the_two.right;
               holds = holds_there;
+              small = omega (arith, at_right, ready.small, size_two);
               fit = fit_there;
               lists = long;
-              room = omega (arith, left_few, opens.wrote.counted, open_two_few b count g r i, ready.room, size_two);
+              room = omega (arith, left_few, opened, ready.room, size_two);
             }
 
         -- the second part stands further on
         pub further_on : of_stmt n < of_stmt j
-        further_on = let e : of_stmt j ≡ of_stmt n + (1 + size the_two.left) = ap of_stmt place in omega arith
+        further_on = omega (arith, at_right)
 
-        pub ready_close_two : {l₃ ls₂ : List ℕ} {g₂ : CellNo} {q : Returned} → Does (inner rows ms o j p.count g₂ l₂ ls₁) l₃ ls₂ q
-            → q.count + (1 + parallel_cells) < 65536
+        pub ready_close_two : {c₃ : Column} {ls₂ : List ℕ} {v : Wires} {q : Returned} → Does (inner rows ms j v c₂ ls₁) c₃ ls₂ q
+            → c₃.count + (1 + parallel_cells) < 65536
         ready_close_two d₂ =
             omega (
               arith,
               does_few (halts_on ready.first (halt_count the_two.left)) the_two.right holds_there fit_there d₂,
               left_few,
-              opens.wrote.counted,
-              open_two_few b count g r i,
+              opened,
               ready.room,
               size_two,
             )

@@ -1,12 +1,9 @@
-// The netlist of a sheet. The rows are walked once, and the cells go into a lent column. Their count goes on past the column's end, where
-// nothing is stored.
+// The netlist of a sheet. The rows are walked once, and the cells go into a lent column.
 #![tactic(auto)]
 
 ghost use Rattle.std.specs.Prelude.{◌≡◌, ◌∷◌, map, suc, ◌+◌, ◌-◌, ◌<◌, ◌≤◌, length};
 ghost use Rattle.std.proofs.lemmas.List.Edits.{sets};
-ghost use Rattle.number.specs.Counts.{of_stmt};
 ghost use Rattle.limits.specs.Limits.{max_signals};
-ghost use Rattle.sheet.specs.Rows.{row_at};
 ghost use Rattle.cells.specs.declared.Cell.TheVariants.{Low, High};
 ghost use Rattle.cells.specs.Words.{word};
 ghost use Rattle.parts.specs.Contract.{nets};
@@ -15,69 +12,48 @@ ghost use Rattle.builder.specs.Walking.{Buildable, Does};
 ghost use Rattle.builder.specs.Contract.{SomeSheet, DoesNetlist};
 
 use cells::{Cell, Gate};
+use gates::Column;
 use limits::MAX_SIGNALS;
 use number::{CellNo, Fault, Refusal, SignalNo, StmtNo};
-use parts::Returned;
-use sheet::Head;
+use parts::{Returned, Wires};
+use sets::Both;
+use sheet::{Head, Row};
 
-// The netlist's count of cells, or ROOM.
-#[derive(Clone, Copy)]
-pub enum NetlistBuilt {
-    Cells(u16),
-    Refused(Fault),
-}
-
-// The head of statement n.
-fn head_at(rows: &[u64], n: StmtNo) -> Head
-    requires { of_stmt n < length rows.now }
-    ensures { result ≡ (row_at rows.now n).head }
-{
-    let row = sheet::row_at(rows, n);
-    row.head
-}
-
-// Statement n: its cells from `count` on, the signals' lists, sel and codes. `statics` has K and R of each statement.
+// Statement n: its cells, the signals' lists, sel and codes. `statics` has K and R of each statement.
 fn statement(
-    rows: &[u64],
-    statics: &[u64],
-    cells: &mut [u64],
+    rows: &[Row],
+    statics: &[Both],
+    column: &mut Column,
     lists: &mut [u16],
     n: StmtNo,
-    count: u16,
-    g: CellNo,
-    r: CellNo,
-    kill: CellNo,
+    w: Wires,
 ) -> Returned
-    requires { Buildable rows.now statics.now lists.old n count }
+    requires { Buildable rows.now statics.now lists.old n column.old.count }
     ensures { Does (record {
       rows = rows.now;
       statics = statics.now;
       stmt = n;
-      next = count;
-      go = g;
-      res = r;
-      kill = kill;
-      cells = cells.old;
+      wires = w;
+      column = column.old;
       lists = lists.old;
-    }) cells.new lists.new result }
+    }) column.new lists.new result }
 {
-    let h = head_at(rows, n);
+    let start = CellNo::new(column.count);
     let i = sheet::first_part(n);
-    match h {
-        Head::Zero(l) => parts::leaf_cells(cells, lists, l, count, g, r, kill),
+    match sheet::row_at(rows, n).head {
+        Head::Zero(l) => parts::leaf_cells(column, lists, l, w),
         Head::One(u) => {
-            let o = parts::open_one(cells, u, count, g, r, kill);
-            let p = statement(rows, statics, cells, lists, i, o.count, o.go, o.res, o.kill);
-            parts::close_one(cells, u, count, g, r, p)
+            let o = parts::open_one(column, u, w);
+            let p = statement(rows, statics, column, lists, i, o);
+            parts::close_one(column, u, start, w, p)
         }
         Head::Two(b) => {
-            let w = parts::open_two(cells, b, count, g, r, kill);
-            let p = statement(rows, statics, cells, lists, i, w.count, w.go, w.res, w.kill);
-            let c = p.codes;
+            let o = parts::open_two(column, b, w);
+            let p = statement(rows, statics, column, lists, i, o.first);
             let j = sheet::second_part(rows, n);
-            let go = parts::go_of(b, w.other, c);
-            let q = statement(rows, statics, cells, lists, j, p.count, go, w.res, w.kill);
-            parts::close_two(cells, b, count, g, kill, sets::given(statics, n), p, q)
+            let go = parts::go_of(b, o.other, p.codes);
+            let q = statement(rows, statics, column, lists, j, Wires { go, ..o.first });
+            parts::close_two(column, b, start, w, sets::given(statics, n), p, q)
         }
     }
 }
@@ -87,11 +63,9 @@ fn input_cells(cells: &mut [u64], inputs: u16)
     requires { inputs < max_signals }
     ensures { cells.new ≡ sets cells.old 2 (map word (input_cells 1 inputs)) }
 {
-    let mut s: u16 = 1;
-    while s <= inputs {
+    for s in 1..=inputs {
         let input = SignalNo::new(s);
         cells::fill(cells, parts::signal_cell(input), Cell::Input(input));
-        s += 1;
     }
 }
 
@@ -100,16 +74,10 @@ fn signal_cells(cells: &mut [u64], lists: &[u16], from: u16, end: u16)
     requires { (end ≤ max_signals) × (length lists.now ≡ max_signals) }
     ensures { cells.new ≡ sets cells.old (suc from) (map word (signal_cells (nets lists.now) from (end - from))) }
 {
-    let mut s = from;
-    while s < end {
-        let at = s as usize;
-        let list = CellNo::new(lists[at]);
-        cells::fill(
-            cells,
-            parts::signal_cell(SignalNo::new(s)),
-            Cell::Gate(Gate::Or, list, cells::low()),
-        );
-        s += 1;
+    for s in from..end {
+        let list = CellNo::new(lists[s as usize]);
+        let cell = Cell::Gate(Gate::Or, list, cells::low());
+        cells::fill(cells, parts::signal_cell(SignalNo::new(s)), cell);
     }
 }
 
@@ -133,36 +101,31 @@ fn head_cells(cells: &mut [u64], inputs: u16, signals: u16)
 
 // The netlist of the sheet whose rows and static sets these are; `signals` counts tick, inputs, outputs and locals.
 pub fn build_netlist(
-    rows: &[u64],
-    statics: &[u64],
+    rows: &[Row],
+    statics: &[Both],
     cells: &mut [u64],
     inputs: u16,
     signals: u16,
-) -> NetlistBuilt
+) -> Result<u16, Fault>
     requires { SomeSheet rows.now statics.now inputs signals }
     ensures { DoesNetlist rows.now statics.now inputs signals cells.old cells.new result }
 {
     head_cells(cells, inputs, signals);
     let mut lists = [0u16; MAX_SIGNALS as usize];
-    let go = CellNo::new(2 + signals);
-    let root = statement(
-        rows,
-        statics,
+    let mut column = Column {
         cells,
-        &mut lists,
-        StmtNo::new(0),
-        3 + signals,
-        go,
-        cells::high(),
-        cells::low(),
-    );
+        count: 3 + signals,
+    };
+    let root = Wires {
+        go: CellNo::new(2 + signals),
+        res: cells::high(),
+        kill: cells::low(),
+    };
+    statement(rows, statics, &mut column, &mut lists, StmtNo::new(0), root);
+    let Column { cells, count } = column;
     signal_cells(cells, &lists, 1 + inputs, signals);
-    let count = root.count;
     if limits::many_cells(count as usize) {
-        return NetlistBuilt::Refused(Fault {
-            refusal: Refusal::Room,
-            place: 0,
-        });
+        return Err(Refusal::Room.at(0));
     }
-    NetlistBuilt::Cells(count)
+    Ok(count)
 }

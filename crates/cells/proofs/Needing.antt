@@ -12,12 +12,11 @@ use Rattle.number.specs.declared.CellNo.{CellNo}
 use Rattle.number.specs.declared.SignalNo.{SignalNo}
 use Rattle.cells.specs.declared.Cell.{Cell}
 use Rattle.cells.specs.declared.Cell.TheVariants.{Low, High, Input, Gate, Register}
-use Rattle.cells.specs.declared.Pins.{Pins}
-use Rattle.cells.specs.declared.Pins.TheVariants.{None, Two}
 use Rattle.cells.specs.Cells.{cell_at}
 use Rattle.cells.specs.Values.{value}
 use Rattle.cells.specs.Needs.{IsCell, pins_of, Among, Needs, Closed}
 use Rattle.cells.proofs.Within.{Within, AllWithin, within_at}
+use Rattle.std.specs.Prelude.{Option, Some, None}
 
 -- what needs a cell is a cell
 pub needs_cell : {cells : List Cell} {x y : CellNo} → Needs cells x y → IsCell cells x
@@ -34,19 +33,19 @@ pub needs_as : {cells : List Cell} {a b x y : CellNo} → a ≡ x → b ≡ y �
 needs_as {cells} {a} {b} {x} {y} p q h = subst⁻¹ (λ (z : CellNo). Needs cells z b) p (subst⁻¹ (λ (z : CellNo). Needs cells x z) q h)
 
 -- a cell with two operands needs these and no others
-module _ {cells : List Cell} {x a b : CellNo} (pins : pins_of (cell_at cells x) ≡ Two a b) where
+module _ {cells : List Cell} {x a b : CellNo} (pins : pins_of (cell_at cells x) ≡ Some (a, b)) where
   pub needs_first : Needs cells x a
-  needs_first = record { among = subst⁻¹ (λ (p : Pins). Among p a) pins (inl refl) }
+  needs_first = record { among = subst⁻¹ (λ (p : Option (CellNo × CellNo)). Among p a) pins (inl refl) }
 
   pub needs_second : Needs cells x b
-  needs_second = record { among = subst⁻¹ (λ (p : Pins). Among p b) pins (inr refl) }
+  needs_second = record { among = subst⁻¹ (λ (p : Option (CellNo × CellNo)). Among p b) pins (inr refl) }
 
   pub needs_only : (P : CellNo → Type 0) → P a → P b → (y : CellNo) → Needs cells x y → P y
-  needs_only P at_a at_b y h = ⊎_elim (λ e. subst P e at_a) (λ e. subst P e at_b) (subst (λ (p : Pins). Among p y) pins h.among)
+  needs_only P at_a at_b y h = ⊎_elim (λ e. subst P e at_a) (λ e. subst P e at_b) (subst (λ (p : Option (CellNo × CellNo)). Among p y) pins h.among)
 
 -- one without needs none
 pub needs_none : {cells : List Cell} {x y : CellNo} → pins_of (cell_at cells x) ≡ None → Needs cells x y → ⊥
-needs_none {cells} {x} {y} pins h = subst (λ (p : Pins). Among p y) pins h.among
+needs_none {cells} {x} {y} pins h = subst (λ (p : Option (CellNo × CellNo)). Among p y) pins h.among
 
 -- what a gate needs is one of its operands
 needed : (s m : ℕ) (c : Cell) (y : CellNo) → Within s m c → Among (pins_of c) y → of_cell y < m

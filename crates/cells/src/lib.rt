@@ -12,28 +12,21 @@ ghost use Rattle.cells.specs.Needs.{pins_of};
 use number::{CellNo, SignalNo};
 
 // The paper's kinds 3 to 5, in its order.
-#[derive(Clone, Copy)]
+#[derive(Clone, Copy, Debug, PartialEq, Eq)]
 pub enum Gate {
-    Or,
-    And,
-    Butnot,
+    Or = 3,
+    And = 4,
+    Butnot = 5,
 }
 
 // The paper's kinds, 0 to 6 in its order.
-#[derive(Clone, Copy)]
+#[derive(Clone, Copy, Debug, PartialEq, Eq)]
 pub enum Cell {
     Low,
     High,
     Input(SignalNo),
     Gate(Gate, CellNo, CellNo),
     Register(CellNo),
-}
-
-// The operands that a cell needs in the same clock.
-#[derive(Clone, Copy)]
-pub enum Pins {
-    None,
-    Two(CellNo, CellNo),
 }
 
 pub fn low() -> CellNo
@@ -59,18 +52,7 @@ pub fn gate_value(g: Gate, a: bool, b: bool) -> bool
     }
 }
 
-// A gate's kind: 3, 4 or 5.
-fn gate_kind(g: Gate) -> u32
-    ensures { (result ≡ gate_kind g) × (result < 8) }
-{
-    match g {
-        Gate::Or => 3,
-        Gate::And => 4,
-        Gate::Butnot => 5,
-    }
-}
-
-// The gate of such a kind.
+// The gate of such a kind. Whoever reads a kind has refused those that are none, so there is no error to give.
 pub fn gate_in(kind: u32) -> Gate
     ensures { result ≡ gate_in kind }
 {
@@ -81,7 +63,7 @@ pub fn gate_in(kind: u32) -> Gate
     }
 }
 
-// A cell's kind: 0 to 6.
+// A cell's kind, 0 to 6, as a word has it.
 pub fn kind_of(c: Cell) -> u32
     ensures { result ≡ kind_of c }
 {
@@ -89,16 +71,15 @@ pub fn kind_of(c: Cell) -> u32
         Cell::Low => 0,
         Cell::High => 1,
         Cell::Input(_) => 2,
-        Cell::Gate(g, _, _) => gate_kind(g),
+        Cell::Gate(g, _, _) => g as u32,
         Cell::Register(_) => 6,
     }
 }
 
-fn packed(kind: u32, x: CellNo, y: CellNo) -> u64
-    requires { kind < 8 }
-    ensures { result ≡ kind + 8 * of_cell x + 524288 * of_cell y }
+fn packed(g: Gate, x: CellNo, y: CellNo) -> u64
+    ensures { result ≡ gate_kind g + 8 * of_cell x + 524288 * of_cell y }
 {
-    (kind as u64) + 8 * (x.number() as u64) + 524288 * (y.number() as u64)
+    (g as u64) + 8 * (x.number() as u64) + 524288 * (y.number() as u64)
 }
 
 // A cell in one word.
@@ -109,7 +90,7 @@ pub fn word_of(c: Cell) -> u64
         Cell::Low => 0,
         Cell::High => 1,
         Cell::Input(s) => 2 + 8 * (s.number() as u64),
-        Cell::Gate(g, x, y) => packed(gate_kind(g), x, y),
+        Cell::Gate(g, x, y) => packed(g, x, y),
         Cell::Register(x) => 6 + 8 * (x.number() as u64),
     }
 }
@@ -139,14 +120,14 @@ pub fn cell_in(w: u64) -> Cell
 pub fn cell_at(cells: &[u64], n: CellNo) -> Cell
     ensures { result ≡ cell_in (get_or cells.now (of_cell n) 0) }
 {
-    let at = n.number() as usize;
-    if cells.len() <= at {
-        return Cell::Low;
+    match cells.get(n.number() as usize) {
+        Some(w) => cell_in(*w),
+        None => Cell::Low,
     }
-    cell_in(cells[at])
 }
 
 // The cell n becomes c: a new cell, or a reserved one whose last operand is filled. Past the column's end nothing is stored.
+// By an index: a slice's `get_mut` promises nothing of what the slice ends as.
 pub fn fill(cells: &mut [u64], n: CellNo, c: Cell)
     ensures { cells.new ≡ set cells.old (of_cell n) (word c) }
 {
@@ -163,28 +144,22 @@ pub fn tally(c: Cell, k: u32) -> u32
     ensures { result ≡ Values.tally c k }
 {
     match c {
-        Cell::Low => k,
-        Cell::High => k,
-        Cell::Input(_) => k,
-        Cell::Gate(_, _, _) => k,
         Cell::Register(_) => k + 1,
+        _ => k,
     }
 }
 
-fn pins_of(c: Cell) -> Pins
+fn pins_of(c: Cell) -> Option<(CellNo, CellNo)>
     ensures { result ≡ pins_of c }
 {
     match c {
-        Cell::Low => Pins::None,
-        Cell::High => Pins::None,
-        Cell::Input(_) => Pins::None,
-        Cell::Gate(_, x, y) => Pins::Two(x, y),
-        Cell::Register(_) => Pins::None,
+        Cell::Gate(_, x, y) => Some((x, y)),
+        _ => None,
     }
 }
 
 // What the cell x needs.
-pub fn pins_at(cells: &[u64], x: CellNo) -> Pins
+pub fn pins_at(cells: &[u64], x: CellNo) -> Option<(CellNo, CellNo)>
     ensures { result ≡ pins_of (cell_at (cells_of cells.now) x) }
 {
     pins_of(cell_at(cells, x))

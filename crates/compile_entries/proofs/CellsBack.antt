@@ -24,7 +24,6 @@ use Rattle.sheet.specs.Read.{Sheet}
 use Rattle.builder.specs.Netlist.{sheet_netlist, sheet_file}
 use Rattle.compiler.specs.Check.{Accepted, accepted as sheet_accepted}
 use Rattle.interpreter.proofs.Interpreting.{accepted_proper}
-use Rattle.files.specs.declared.Judgement.TheVariants.{Right}
 use Rattle.files.specs.Judge.{judge_count, word_kinds, judge_kind}
 use Rattle.files.specs.Read.{netlist}
 use Rattle.number.proofs.Bools.{and_left, and_right}
@@ -35,10 +34,11 @@ use Rattle.netlists.specs.Words.{judge_word, unless, judge_words, at_zero, judge
 use Rattle.netlists.specs.Check.{accepted, ChecksFile, ChecksCells}
 use Rattle.netlists.proofs.Words.{word_right}
 use Rattle.compile_entries.proofs.CompileEntries.{accepted_few}
+use Rattle.std.specs.Prelude.{Ok}
 
 -- nothing is wrong with the words from cell x on, with k registers before it
 words_right : (I m : ℕ) (x : CellNo) (k : ℕ) (cs : List Cell) → AllWithin 65536 65536 cs → cells_fit I m x cs ≡ true → k + registers cs ≤ max_registers
-    → judge_words I m x k (map word cs) ≡ Right
+    → judge_words I m x k (map word cs) ≡ Ok tt
 unfolding AllWithin cells_fit registers judge_words unless
 words_right I m x k [] h fit bits = refl
 words_right I m x k (c ∷ cs) h fit bits =
@@ -47,9 +47,9 @@ words_right I m x k (c ∷ cs) h fit bits =
     let kind = and_left (kind_fits I x (kind_of c)) (operands_fit m x c) here in
     let operands = and_right (kind_fits I x (kind_of c)) (operands_fit m x c) here in
     let after : tally c k + registers cs ≤ max_registers = omega (arith, tally_sum c k (registers cs)) in
-    let right : judge_kind word_kinds I x k (word c % 8) ≡ Right =
+    let right : judge_kind word_kinds I x k (word c % 8) ≡ Ok tt =
     rw (word_kind c) (right_kind (record { low = kind_low c; room = room_tally c k (omega arith); fits = kind })) in
-    let this : judge_word I m x k (word c) ≡ Right = word_right I m x k (word c) right (rw back operands) (ap word back) in
+    let this : judge_word I m x k (word c) ≡ Ok tt = word_right I m x k (word c) right (rw back operands) (ap word back) in
     rw (this, back)
     (words_right I m (next_cell x) (tally c k) cs h.1
     (and_right (kind_fits I x (kind_of c) && operands_fit m x c) (cells_fit I m (next_cell x) cs) fit) after)
@@ -59,7 +59,7 @@ module _ {w : Netlist} (h : WellFormed w) where
   unfolding judge_cells unless at_zero pick
   cells_back =
       let all = words_right w.inputs (length w.cells) (cell_no 0) 0 w.cells (formed_small h) h.fit (omega (arith, h.bits)) in
-      let count : judge_count w.inputs w.outputs (length w.cells) ≡ Right = right_count (record { few = h.few; enough = h.enough }) in
+      let count : judge_count w.inputs w.outputs (length w.cells) ≡ Ok tt = right_count (record { few = h.few; enough = h.enough }) in
       rw (le-ltb max_signals (1 + w.inputs + w.outputs) h.signals, length-map w.cells word, count, all, words_mean w.cells (formed_small h))
 
   pub cells_accepted : {order : List ℕ} → Ordered w.cells order → ChecksCells w.inputs w.outputs (map word w.cells) (netlist w)

@@ -3,19 +3,20 @@
 
 ghost use Rattle.compile_entries.specs.Compile.{Written, Listed};
 
-use compiler::Compiled;
+use sets::Both;
+use sheet::Row;
 use verdicts::{Answer, Listing};
 
 // Compiles a sheet to a netlist file. An empty buffer asks for the file's length.
 pub fn compile(s: &[u8], buffer: &mut [u8]) -> Answer
     ensures { Written s.now result buffer.old buffer.new }
 {
-    let mut rows = [0u64; limits::MAX_STATEMENTS];
-    let mut statics = [0u64; limits::MAX_STATEMENTS];
+    let mut rows = [Row::empty(); limits::MAX_STATEMENTS];
+    let mut statics = [Both::empty(); limits::MAX_STATEMENTS];
     let mut cells = [0u64; limits::MAX_CELLS];
     match compiler::compile(s, &mut rows, &mut statics, &mut cells) {
-        Compiled::Refused(f) => verdicts::refusal(f),
-        Compiled::Program(c, n) => netlist_entries::written(
+        Err(f) => verdicts::refusal(f),
+        Ok((c, n)) => netlist_entries::written(
             c.statements,
             c.inputs as u32,
             c.outputs as u32,
@@ -29,12 +30,12 @@ pub fn compile(s: &[u8], buffer: &mut [u8]) -> Answer
 pub fn compile_cells(s: &[u8], words: &mut [u64]) -> Listing
     ensures { Listed s.now result words.old words.new }
 {
-    let mut rows = [0u64; limits::MAX_STATEMENTS];
-    let mut statics = [0u64; limits::MAX_STATEMENTS];
+    let mut rows = [Row::empty(); limits::MAX_STATEMENTS];
+    let mut statics = [Both::empty(); limits::MAX_STATEMENTS];
     let mut cells = [0u64; limits::MAX_CELLS];
     match compiler::compile(s, &mut rows, &mut statics, &mut cells) {
-        Compiled::Refused(f) => verdicts::with_signals(verdicts::refusal(f), 0, 0),
-        Compiled::Program(c, n) => netlist_entries::handed(
+        Err(f) => verdicts::with_signals(verdicts::refusal(f), 0, 0),
+        Ok((c, n)) => netlist_entries::handed(
             c.statements,
             c.inputs,
             c.outputs,

@@ -12,12 +12,12 @@ use Rattle.sheet.proofs.ProperRead.{proper}
 use Rattle.cells.proofs.Needing.{closed}
 use Rattle.builder.specs.Netlist.{sheet_netlist}
 use Rattle.builder.proofs.Format.{sheet_closed}
-use Rattle.order.specs.declared.Ordering.{Ordering}
-use Rattle.order.specs.declared.Ordering.TheVariants.{Found, Cycle}
 use Rattle.order.specs.Paths.{OnCycle}
 use Rattle.order.proofs.Exists as ordering
 use Rattle.compiler.specs.Check.{judge, Checks, refused, cyclic, accepted, Accepted}
 use Rattle.compiler.proofs.Passing.{judged_read}
+use Rattle.order.specs.declared.Cycle.{Cycle}
+use Rattle.std.specs.Prelude.{Result, Ok, Err}
 
 -- the cells of a sheet without the faults 1 to 11 have an order, or a lowest cell on a cycle
 module _ (s : List ℕ) {w : Sheet} (judged : judge s ≡ sheet w) where
@@ -36,9 +36,10 @@ pub record Answered (s : List ℕ) : Type 0 where
 pub answered : (s : List ℕ) → Answered s
 answered s = go (judge s) refl
   where
-    by_order : (w : Sheet) → judge s ≡ sheet w → (a : ordering.Answered (sheet_netlist w)) (r : Ordering) → a.answer ≡ r → Answered s
-    by_order w e a Found is = record { outcome = sheet w; checks = accepted a.order e (a.is.found is) }
-    by_order w e a (Cycle x) is = record { outcome = faulty (fault CycleFault (of_cell x)); checks = cyclic e (a.is.cycle x is) }
+    by_order : (w : Sheet) → judge s ≡ sheet w → (a : ordering.Answered (sheet_netlist w)) (r : Result (Unit {0}) Cycle) → a.answer ≡ r → Answered s
+    by_order w e a (Ok tt) is = record { outcome = sheet w; checks = accepted a.order e (a.is.found is) }
+    by_order w e a (Err k) is =
+        record { outcome = faulty (fault CycleFault (of_cell k.lowest)); checks = cyclic e (a.is.cycle k is) }
 
     go : (o : SheetOutcome) → judge s ≡ o → Answered s
     go (faulty f) e = record { outcome = faulty f; checks = refused e }

@@ -28,7 +28,7 @@ use Rattle.files.specs.Read.{netlist as read, read_file}
 use Rattle.files.proofs.ReadBack.{file_read_back}
 
 no_gate : {A : Type 0} → false ≡ true → A
-no_gate e = let z : ◌≡◌ {A = ℕ} 0 1 = cc in absurd (omega arith)
+no_gate e = cc
 
 -- gates and registers past the inputs fit, where their operands are cells
 module _ (I m : ℕ) where

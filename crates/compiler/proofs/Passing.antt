@@ -13,30 +13,30 @@ use Rattle.number.specs.Counts.{stmt_no}
 use Rattle.number.specs.Number.{pick}
 use Rattle.limits.specs.Limits.{max_cells, many_cells}
 use Rattle.sheet.specs.Read.{Sheet, SheetOutcome, sheet, faulty, read_sheet}
-use Rattle.sets.specs.declared.Found.{Found}
-use Rattle.sets.specs.declared.Found.TheVariants.{At, Clear}
 use Rattle.sets.specs.Faults.{instant, twice}
 use Rattle.builder.specs.Netlist.{sheet_netlist}
 use Rattle.compiler.specs.Check.{unless, roomy, judged, judge}
+use Rattle.number.specs.declared.StmtNo.{StmtNo}
+use Rattle.std.specs.Prelude.{Option, Some, None}
 
 -- a fault is no sheet
 pub faulty_sheet : {A : Type 0} {f : Fault} {w : Sheet} → faulty f ≡ sheet w → A
-faulty_sheet e = let z : ◌≡◌ {A = ℕ} 0 1 = cc in absurd (omega arith)
+faulty_sheet e = cc
 
 -- nothing was found, and what comes after passed
-pub record Went (f : Found) (o : SheetOutcome) (w : Sheet) : Type 0 where
-  pub clear : f ≡ Clear
+pub record Went (f : Option StmtNo) (o : SheetOutcome) (w : Sheet) : Type 0 where
+  pub clear : f ≡ None
   pub on : o ≡ sheet w
 
-went : (x : Refusal) (f : Found) (o : SheetOutcome) {w : Sheet} → unless x f o ≡ sheet w → Went f o w
+went : (x : Refusal) (f : Option StmtNo) (o : SheetOutcome) {w : Sheet} → unless x f o ≡ sheet w → Went f o w
 unfolding unless
-went x (At n) o e = faulty_sheet e
-went x Clear o e = record { clear = refl; on = e }
+went x (Some n) o e = faulty_sheet e
+went x None o e = record { clear = refl; on = e }
 
 pub record Passed (v w : Sheet) : Type 0 where
   pub same : v ≡ w
-  pub no_instant : instant (stmt_no 0) v.root ≡ Clear
-  pub no_twice : twice (stmt_no 0) v.root ≡ Clear
+  pub no_instant : instant (stmt_no 0) v.root ≡ None
+  pub no_twice : twice (stmt_no 0) v.root ≡ None
   pub few : length (sheet_netlist v) ≤ max_cells
 
 record Roomed (v w : Sheet) : Type 0 where

@@ -9,8 +9,6 @@ use Rattle.number.specs.declared.Fault.{Fault}
 use Rattle.number.specs.Counts.{stmt_no, halt_no}
 use Rattle.limits.specs.Limits.{max_statements, max_cells}
 use Rattle.sheet.specs.declared.Counts.{Counts}
-use Rattle.sheet.specs.declared.SheetRead.{SheetRead}
-use Rattle.sheet.specs.declared.SheetRead.TheVariants.{Read, Refused as NotRead}
 use Rattle.sheet.specs.Read.{Sheet, SheetOutcome, sheet, faulty, read_sheet}
 use Rattle.sheet.specs.Rows.{lay, Holds}
 use Rattle.sheet.specs.Answer.{sheet_answer}
@@ -22,54 +20,53 @@ use Rattle.cells.specs.Needs.{Closed}
 use Rattle.cells.proofs.Within.{AllWithin, all_wider}
 use Rattle.cells.proofs.Needing.{closed}
 use Rattle.cells.proofs.Words.{stored_cells}
-use Rattle.builder.specs.declared.NetlistBuilt.{NetlistBuilt}
-use Rattle.builder.specs.declared.NetlistBuilt.TheVariants.{Cells, Refused as NotBuilt}
 use Rattle.builder.specs.Netlist.{sheet_netlist}
 use Rattle.builder.proofs.Format.{stored_whole, sheet_closed}
-use Rattle.compiler.specs.declared.Compiled.{Compiled}
-use Rattle.compiler.specs.declared.Compiled.TheVariants.{Program, Refused}
 use Rattle.compiler.specs.Check.{judged, judge, refused, cyclic, accepted}
 use Rattle.compiler.specs.Compile.{ReadAs, SomeRead, built_of, Judges, JudgesRead, Finishes, found, cycle, Compiles, compiled_of, DidCompile}
 use Rattle.compiler.proofs.Passing.{faulty_sheet, passed}
+use Rattle.std.specs.Prelude.{Result, Ok, Err}
+use Rattle.sets.specs.declared.Both.{Both}
+use Rattle.sheet.specs.declared.Row.{Row}
 
 -- the bytes were read as a sheet, which the rows hold
-pub record WasRead (s rows : List ℕ) (c : Counts) : Type 0 where
+pub record WasRead (s : List ℕ) (rows : List Row) (c : Counts) : Type 0 where
   pub w : Sheet
   pub read : read_sheet s ≡ sheet w
   pub is : ReadAs rows c w
 
-module _ {s before after : List ℕ} (room : max_statements ≤ length before) where
-  was_read : (o : SheetOutcome) {c : Counts} → read_sheet s ≡ o → DidSheet o (Read c) before after → WasRead s after c
+module _ {s : List ℕ} {before after : List Row} (room : max_statements ≤ length before) where
+  was_read : (o : SheetOutcome) {c : Counts} → read_sheet s ≡ o → DidSheet o (Ok c) before after → WasRead s after c
   unfolding sheet_answer SheetLaid
-  was_read (faulty f) e did = let z : ◌≡◌ {A = ℕ} 0 1 = cc in absurd (omega arith)
+  was_read (faulty f) e did = cc
   was_read (sheet w) e did =
       let counts = did.answer in
       let ok = proper s w e in
-      let laid : List ℕ = lay before (stmt_no 0) (halt_no 0) w.root in
+      let laid : List Row = lay before (stmt_no 0) (halt_no 0) w.root in
       let held : Holds laid (stmt_no 0) (halt_no 0) w.root = holds_proper w.inputs w.outputs before w.root ok room in
       record { w = w; read = e; is = record { proper = ok; counts = cc; holds = rw did.rows held } }
 
-  pub sheet_was_read : {r : SheetRead} {c : Counts} → DidSheet (read_sheet s) r before after → r ≡ Read c → WasRead s after c
+  pub sheet_was_read : {r : Result Counts Fault} {c : Counts} → DidSheet (read_sheet s) r before after → r ≡ Ok c → WasRead s after c
   sheet_was_read did e = was_read (read_sheet s) refl (rw e at did)
 
 -- a fault of the first eleven
-module _ {s rows statics cells : List ℕ} {f : Fault} where
-  pub did_refuse : judge s ≡ faulty f → DidCompile s (Refused f) rows statics cells
+module _ {s : List ℕ} {rows : List Row} {statics : List Both} {cells : List ℕ} {f : Fault} where
+  pub did_refuse : judge s ≡ faulty f → DidCompile s (Err f) rows statics cells
   unfolding compiled_of
   did_refuse e = record { outcome = faulty f; checks = refused e; answer = refl; columns = λ w z. faulty_sheet z }
 
-not_read : (o : SheetOutcome) {f : Fault} → NotRead f ≡ sheet_answer o → o ≡ faulty f
+not_read : (o : SheetOutcome) {f : Fault} → Err f ≡ sheet_answer o → o ≡ faulty f
 unfolding sheet_answer
 not_read (faulty f) e = cc
-not_read (sheet w) e = let z : ◌≡◌ {A = ℕ} 0 1 = cc in absurd (omega arith)
+not_read (sheet w) e = cc
 
-not_built : (o : SheetOutcome) {f : Fault} → NotBuilt f ≡ built_of o → o ≡ faulty f
+not_built : (o : SheetOutcome) {f : Fault} → Err f ≡ built_of o → o ≡ faulty f
 unfolding built_of
 not_built (faulty f) e = cc
-not_built (sheet w) e = let z : ◌≡◌ {A = ℕ} 0 1 = cc in absurd (omega arith)
+not_built (sheet w) e = cc
 
-pub sheet_refused : {s before after rows statics cells : List ℕ} {r : SheetRead} {f : Fault} → DidSheet (read_sheet s) r before after → r ≡ NotRead f
-    → DidCompile s (Refused f) rows statics cells
+pub sheet_refused : {s : List ℕ} {before after rows : List Row} {statics : List Both} {cells : List ℕ} {r : Result Counts Fault} {f : Fault}
+    → DidSheet (read_sheet s) r before after → r ≡ Err f → DidCompile s (Err f) rows statics cells
 unfolding judge judged
 sheet_refused {s} did e = did_refuse (ap judged (not_read (read_sheet s) (sym e ∙ did.answer)))
 
@@ -79,16 +76,16 @@ pub record IsBuilt (w : Sheet) (n : ℕ) : Type 0 where
   pub count : n ≡ length (sheet_netlist w)
   pub few : length (sheet_netlist w) ≤ max_cells
 
-is_built : (w : Sheet) (o : SheetOutcome) {n : ℕ} → judged (sheet w) ≡ o → Cells n ≡ built_of o → IsBuilt w n
+is_built : (w : Sheet) (o : SheetOutcome) {n : ℕ} → judged (sheet w) ≡ o → Ok n ≡ built_of o → IsBuilt w n
 unfolding built_of
-is_built w (faulty f) e built = let z : ◌≡◌ {A = ℕ} 0 1 = cc in absurd (omega arith)
+is_built w (faulty f) e built = cc
 is_built w (sheet v) {n} e built =
     let p = passed w e in
     let own : v ≡ w = sym p.same in
     let count : n ≡ length (sheet_netlist v) = cc in
     record { judged_as = e ∙ ap sheet own; count = count ∙ ap (λ (u : Sheet). length (sheet_netlist u)) own; few = p.few }
 
-module _ {s rows : List ℕ} {c : Counts} (was : WasRead s rows c) where
+module _ {s : List ℕ} {rows : List Row} {c : Counts} (was : WasRead s rows c) where
   pub some_read : SomeRead rows c
   some_read = record { read = was.w; is = was.is }
 
@@ -96,14 +93,14 @@ module _ {s rows : List ℕ} {c : Counts} (was : WasRead s rows c) where
   unfolding judge
   judged_sheet = ap judged was.read
 
-  module _ {statics' cells cells' : List ℕ} {r : NetlistBuilt} (did : JudgesRead rows c r statics' cells cells') where
+  module _ {statics' : List Both} {cells cells' : List ℕ} {r : Result ℕ Fault} (did : JudgesRead rows c r statics' cells cells') where
     judges : Judges was.w r statics' cells cells'
     judges = did.judges was.w was.is
 
-    pub judge_refused : {f : Fault} {rows statics cells : List ℕ} → r ≡ NotBuilt f → DidCompile s (Refused f) rows statics cells
+    pub judge_refused : {f : Fault} {rows : List Row} {statics : List Both} {cells : List ℕ} → r ≡ Err f → DidCompile s (Err f) rows statics cells
     judge_refused e = did_refuse (judged_sheet ∙ not_built (judged (sheet was.w)) (sym e ∙ judges.answer))
 
-    module _ {n : ℕ} (built_n : r ≡ Cells n) (room : max_cells ≤ length cells) where
+    module _ {n : ℕ} (built_n : r ≡ Ok n) (room : max_cells ≤ length cells) where
       built : IsBuilt was.w n
       built = is_built was.w (judged (sheet was.w)) refl (sym built_n ∙ judges.answer)
 
@@ -145,13 +142,13 @@ module _ {s rows : List ℕ} {c : Counts} (was : WasRead s rows c) where
       meaning : cells_of (take (length (sheet_netlist was.w)) cells') ≡ sheet_netlist was.w
       meaning = ap (λ (k : ℕ). cells_of (take k cells')) (sym built.count) ∙ cells_are
 
-      finish : {r : Compiled} → Finishes (sheet_netlist was.w) c r → DidCompile s r rows statics' cells'
+      finish : {r : Result (Counts × ℕ) Fault} → Finishes (sheet_netlist was.w) c r → DidCompile s r rows statics' cells'
       unfolding compiled_of
       finish (found {order} ordered) =
           record {
             outcome = sheet was.w;
             checks = accepted order (judged_sheet ∙ built.judged_as) ordered;
-            answer = ap (λ (k : Counts). Program k (length (sheet_netlist was.w))) was.is.counts;
+            answer = ap (λ (k : Counts). Ok (k, length (sheet_netlist was.w))) was.is.counts;
             columns = λ v e. let own : was.w ≡ v = cc in
                 subst (λ (u : Sheet). Compiles u rows statics' cells') own
                 (record { holds = was.is.holds; kept = judges.kept; stored = stored_words; means = meaning });
@@ -164,5 +161,5 @@ module _ {s rows : List ℕ} {c : Counts} (was : WasRead s rows c) where
             columns = λ v e. faulty_sheet e;
           }
 
-      pub did_finish : {r : Compiled} → Finishes (cells_of (take n cells')) c r → DidCompile s r rows statics' cells'
+      pub did_finish : {r : Result (Counts × ℕ) Fault} → Finishes (cells_of (take n cells')) c r → DidCompile s r rows statics' cells'
       did_finish f = finish (rw cells_are at f)

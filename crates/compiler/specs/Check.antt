@@ -1,5 +1,5 @@
 -- The whole check of a sheet: "the first fault answers: .. Then EXTRA, 9, 10, 11, 12".
-use Rattle.std.specs.Prelude.{◌≡◌, List, ℕ, length}
+use Rattle.std.specs.Prelude.{◌≡◌, List, ℕ, length, Option, Some, None}
 use Rattle.number.specs.declared.CellNo.{CellNo}
 use Rattle.number.specs.declared.Fault.{Fault}
 use Rattle.number.specs.declared.Refusal.{Refusal}
@@ -9,16 +9,15 @@ use Rattle.number.specs.Number.{pick}
 use Rattle.number.specs.Refusals.{fault}
 use Rattle.limits.specs.Limits.{many_cells}
 use Rattle.sheet.specs.Read.{Sheet, SheetOutcome, sheet, faulty, read_sheet}
-use Rattle.sets.specs.declared.Found.{Found}
-use Rattle.sets.specs.declared.Found.TheVariants.{At, Clear}
 use Rattle.sets.specs.Faults.{instant, twice}
 use Rattle.builder.specs.Netlist.{netlist, sheet_netlist}
 use Rattle.order.specs.Paths.{Lowest, Ordered}
+use Rattle.number.specs.declared.StmtNo.{StmtNo}
 
 -- a statement at fault answers, and otherwise the check goes on
-unfoldable pub unless : Refusal → Found → SheetOutcome → SheetOutcome
-unless x (At n) o = faulty (fault x (of_stmt n))
-unless x Clear o = o
+unfoldable pub unless : Refusal → Option StmtNo → SheetOutcome → SheetOutcome
+unless x (Some n) o = faulty (fault x (of_stmt n))
+unless x None o = o
 
 -- "ROOM: over 1,024 cells", place 0
 unfoldable pub roomy : Sheet → SheetOutcome

@@ -12,7 +12,6 @@ use Rattle.cells.specs.Words.{cells_of}
 use Rattle.cells.specs.Netlist.{netlist_of, WellFormed}
 use Rattle.cells.proofs.Words.{cells_length}
 use Rattle.cells.proofs.Fitting.{formed_closed}
-use Rattle.files.specs.declared.FileRead.TheVariants.{Read}
 use Rattle.files.specs.declared.Header.{Header}
 use Rattle.files.specs.Read.{FileOutcome, netlist, faulty, read_file}
 use Rattle.netlists.specs.Words.{judge_cells}
@@ -27,6 +26,7 @@ use Rattle.covers.specs.Checking.{Judged}
 use Rattle.verdicts.specs.declared.Answer.{Answer}
 use Rattle.verdicts.specs.Answers.{passes, stops, answer_of, refusal, acceptance}
 use Rattle.cover_entries.specs.Covers.{own, right, wrong, Judges, CoverChecked}
+use Rattle.std.specs.Prelude.{Ok}
 
 -- The columns suffice.
 pub judgeable : {I O : ℕ} (words : List ℕ) {tabled marks values stack : List ℕ} → WellFormed (netlist_of I O words)
@@ -65,19 +65,19 @@ cover_refused {f = f} was = record { outcome = faulty f; checks = was; judges = 
 
 -- A netlist in a file, and one as words.
 pub cover_file_checked : (s : List ℕ) {h : Header} {column column' order : List ℕ}
-    (d : DidCheckFile (read_file s) (Read h) column column' order)
+    (d : DidCheckFile (read_file s) (Ok h) column column' order)
     → max_cells ≤ length column → {cover : List ℕ} {r : Answer}
     → Judges (netlist (netlist_of h.inputs h.outputs (take h.cells column'))) cover r
     → CoverChecked (read_file s) cover r
 cover_file_checked s d long j =
     record { outcome = netlist (file s d long).found_as.net; checks = checks (file s d long); judges = rw (file_is s d long) at j }
 
-pub cover_words_checked : (I O : ℕ) (words : List ℕ) {h : Header} {order : List ℕ} (d : DidCheck (judge_cells I O words) (Read h) order)
+pub cover_words_checked : (I O : ℕ) (words : List ℕ) {h : Header} {order : List ℕ} (d : DidCheck (judge_cells I O words) (Ok h) order)
     {cover : List ℕ} {r : Answer} → Judges (netlist (netlist_of h.inputs h.outputs words)) cover r → CoverChecked
     (judge_cells I O words) cover r
 cover_words_checked I O words d j =
     record { outcome = netlist (accepts d).found_as.net; checks = checks (accepts d); judges = rw (words_are I O words d) at j }
 
-pub words_formed : (I O : ℕ) (words : List ℕ) {h : Header} {order : List ℕ} (d : DidCheck (judge_cells I O words) (Read h) order)
+pub words_formed : (I O : ℕ) (words : List ℕ) {h : Header} {order : List ℕ} (d : DidCheck (judge_cells I O words) (Ok h) order)
     → WellFormed (netlist_of h.inputs h.outputs words)
 words_formed I O words d = rw (words_header I O words d) (cells_formed I O words d)

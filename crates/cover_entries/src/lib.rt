@@ -1,4 +1,4 @@
-// The entries that check a cover of a netlist, in a file or as I, O and a word for each cell.
+// The entries that check a cover of a netlist, in a file or as I, O and a word for each cell: one for each form, since C calls both, over one check.
 #![tactic(auto)]
 
 ghost use Rattle.std.specs.Prelude.{◌≡◌, length};
@@ -9,9 +9,8 @@ ghost use Rattle.netlists.specs.Words.{judge_cells};
 ghost use Rattle.cuts.specs.Cutting.{HasOrder};
 ghost use Rattle.cover_entries.specs.Covers.{Judges, CoverChecked};
 
-use covers::Covering;
-use files::{FileRead, Header};
-use number::{Fault, Refusal};
+use files::Header;
+use number::Refusal;
 use verdicts::Answer;
 
 // A cover of a netlist that was accepted.
@@ -34,11 +33,8 @@ fn judged(h: Header, cells: &[u64], cover: &[u16]) -> Answer
         &mut values,
         &mut stack,
     ) {
-        Covering::Right => verdicts::acceptance(0, h.cells as u16),
-        Covering::Wrong(place) => verdicts::refusal(Fault {
-            refusal: Refusal::Cover,
-            place,
-        }),
+        Ok(()) => verdicts::acceptance(0, h.cells as u16),
+        Err(place) => verdicts::refusal(Refusal::Cover.at(place)),
     }
 }
 
@@ -49,8 +45,8 @@ pub fn cover_file(s: &[u8], cover: &[u16]) -> Answer
     let mut cells = [0u64; limits::MAX_CELLS];
     let mut order = [0u16; limits::MAX_CELLS];
     match netlists::check_file(s, &mut cells, &mut order) {
-        FileRead::Refused(f) => verdicts::refusal(f),
-        FileRead::Read(h) => {
+        Err(f) => verdicts::refusal(f),
+        Ok(h) => {
             let m = h.cells as usize;
             judged(h, &cells[..m], cover)
         }
@@ -63,7 +59,7 @@ pub fn cover_cells(inputs: u32, outputs: u32, words: &[u64], cover: &[u16]) -> A
 {
     let mut order = [0u16; limits::MAX_CELLS];
     match netlists::check_cells(inputs, outputs, words, &mut order) {
-        FileRead::Refused(f) => verdicts::refusal(f),
-        FileRead::Read(h) => judged(h, words, cover),
+        Err(f) => verdicts::refusal(f),
+        Ok(h) => judged(h, words, cover),
     }
 }

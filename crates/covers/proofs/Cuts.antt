@@ -4,6 +4,7 @@ use mathlib.Core.Path.{◌≡◌, refl, sym, ap, ◌∙◌, subst}
 use mathlib.Core.Bool.{Bool, true, false, ◌&&◌, true≢false}
 use mathlib.Core.List.{List}
 use native.Mathlib.Omega.{arith}
+use Rattle.std.proofs.Math.Logic.{∥∥₁_elim}
 use lib.Dec.{eqb}
 use lib.Bits.{bit_and, and_le_l}
 use lib.ListN.{length, get_or}
@@ -23,11 +24,11 @@ use Rattle.order.specs.Paths.{Reaches, one}
 use Rattle.run.specs.Held.{SolvesHeld}
 use Rattle.run.proofs.One.{held}
 use Rattle.cuts.specs.Cut.{pin_at, is_source, is_constant, is_pin, Met, operand, onward, RightCut}
-use Rattle.cuts.specs.Cutting.{HasOrder, Alike, Counted, Cutting, Strays}
+use Rattle.cuts.specs.Cutting.{CanOrder, HasOrder, Alike, Counted, Cutting, Strays}
 use Rattle.covers.specs.Checking.{PinsKnown}
 use Rattle.cuts.proofs.Words.{bit_and_lem}
 use Rattle.cuts.proofs.Pins.{pin_found, found_pin}
-use Rattle.cuts.proofs.Depth.{no_cycle}
+use Rattle.cuts.proofs.Depth.{acyclic}
 use Rattle.cuts.proofs.Ways.{join, root_known, met_known, known_met}
 use Rattle.cuts.proofs.Visits.{small}
 
@@ -37,13 +38,13 @@ met_reached (operand n) = one n
 met_reached (onward m e n) = join (met_reached m) n
 
 -- a pin that is the table's own cell is not met below it
-pub own_pin : {cells : List Cell} (t : Table) → HasOrder cells → IsCell cells t.cell → is_constant (cell_at cells t.cell) ≡ false
+pub own_pin : {cells : List Cell} (t : Table) → CanOrder cells → IsCell cells t.cell → is_constant (cell_at cells t.cell) ≡ false
     → length t.pins ≡ pins → is_pin t.pins t.cell ≡ true → RightCut cells t → ⊥
 own_pin {cells} t o is gate long pin right =
     let w = pin_found t.pins t.cell pin in
     let other = ap (λ (x : CellNo). is_constant (cell_at cells x)) w.2 ∙ gate in
     let way = right.met w.0 (omega (arith, w.1, long)) other in
-    no_cycle o.1 is (subst (Reaches cells t.cell) w.2 (met_reached way))
+    acyclic o is (subst (Reaches cells t.cell) w.2 (met_reached way))
 
 pub strays_wrong : {cells : List Cell} (t : Table) → Strays cells t.pins t.cell → RightCut cells t → ⊥
 strays_wrong t s right = true≢false (sym (right.ends s.at s.met s.source) ∙ s.no_pin)
@@ -115,9 +116,9 @@ module _ {cells : List Cell} (t : Table) {base : ℕ} {marks values stack : List
         ends y m source true f = f
         ends y m source false f = absurd (true≢false (sym source ∙ k.closed y (met_known k no_own m) f))
 
-    pub fails : HasOrder cells → word < 2 ^ settings → t.truth < 2 ^ settings → test ≡ false → RightCut cells t → ⊥
+    wrong : HasOrder cells → word < 2 ^ settings → t.truth < 2 ^ settings → test ≡ false → RightCut cells t → ⊥
     unfolding answers
-    fails o small_word small_truth e right =
+    wrong o small_word small_truth e right =
         eqb-false (bit_and word counts) (bit_and t.truth counts) e
         (same_bits settings (bit_and word counts) (bit_and t.truth counts) (below word small_word) (below t.truth small_truth)
         (λ b h. at b h (bit counts b) refl))
@@ -152,3 +153,6 @@ module _ {cells : List Cell} (t : Table) {base : ℕ} {marks values stack : List
             ∙ hidden (bit w b) (bit counts b) none
             ∙ sym (hidden (bit t.truth b) (bit counts b) none)
             ∙ sym (bit_and_lem t.truth counts b)
+
+    pub fails : CanOrder cells → word < 2 ^ settings → t.truth < 2 ^ settings → test ≡ false → RightCut cells t → ⊥
+    fails o small_word small_truth e right = ∥∥₁_elim o (λ a b. absurd a) (λ w. wrong w small_word small_truth e right)

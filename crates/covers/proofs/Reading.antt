@@ -1,53 +1,74 @@
 -- Reading a cover's tables, and listing their cells.
-use Prim.Native.Nat.{ℕ, ◌+◌, ◌<◌, ◌≤◌}
-use mathlib.Core.Path.{◌≡◌, refl, sym, ap, ◌∙◌, subst⁻¹}
-use mathlib.Core.List.{List}
-use native.Mathlib.Numerals.{add-one}
+use Prim.Native.Nat.{ℕ, zero, suc, ◌+◌, ◌-◌, ◌*◌, ◌<◌, ◌≤◌}
+use mathlib.Core.Path.{◌≡◌, refl, sym, ap, ◌∙◌, subst, subst⁻¹}
+use mathlib.Core.List.{List, ◌++◌}
+use native.Mathlib.Nat.{add-zero, zero-add}
 use native.Mathlib.Omega.{arith}
 use native.Mathlib.Decide.{ℕ_discrete}
-use lib.ListN.{length, get_or, take, set, length-set, length-map}
-use lib.Seq.{take_all, take-suc, take-suc-set}
+use lib.ListN.{length, get_or, get_or-append, drop, set, length-set, length-map}
+use lib.Seq.{drop-append_seam}
+use Rattle.std.specs.Fn.{Called, Mut}
+use Rattle.std.specs.Array.{IsFromFnResult, IsFromFnResultFrom}
+use Rattle.std.proofs.lemmas.List.{get_or-drop, drop-drop, length-append, length-drop}
+use Rattle.std.proofs.lemmas.List.FromFn.{fill_by_all}
 use Rattle.number.specs.Counts.{cell_no, of_cell}
 use Rattle.number.specs.declared.CellNo.{CellNo}
 use Rattle.tables.specs.Answering.{pins}
 use Rattle.tables.specs.Orders.{from}
-use Rattle.tables.proofs.Tabulated.{tabulated, length_from}
+use Rattle.tables.proofs.Tabulated.{length_from}
 use Rattle.order.specs.Search.{mark, IsBlank}
 use Rattle.order.proofs.Columns.{mark_same}
-use Rattle.cuts.specs.Cut.{pin_at}
 use Rattle.cuts.proofs.Ways.{marked}
-use Rattle.covers.specs.Covers.{pins_from, table_at}
+use Rattle.covers.specs.Covers.{size, table_count, pins_from, table_at}
 use Rattle.covers.specs.Checking.{Tabled}
-
--- new has the first q pins of the table whose numbers begin at `at`
-pub record PinsRead (cover : List ℕ) (at : ℕ) (new : List CellNo) (q : ℕ) : Type 0 where
-  pub few : q ≤ pins
-  pub long : length new ≡ pins
-  pub so_far : take q new ≡ take q (pins_from cover at)
 
 pub pins_long : (cover : List ℕ) (at : ℕ) → length (pins_from cover at) ≡ pins
 unfolding pins_from
 pins_long cover at = length-map (from 0 pins) (λ (p : ℕ). cell_no (get_or cover (at + 1 + p) 0)) ∙ length_from 0 pins
 
-pin_is : (cover : List ℕ) (at p : ℕ) → p < pins → pin_at (pins_from cover at) p ≡ cell_no (get_or cover (at + 1 + p) 0)
+-- What calls of a closure that stays as it is give at each number.
+made_from : {F B : Type 0} (g : Mut F (ℕ × Unit {0}) B) (f : F) (h : ℕ → B)
+    → ((i : ℕ) (y : B) (q : F) → Called g f (i, tt) y q → (q ≡ f) × (y ≡ h i))
+    → (s : F) (ys : List B) (i n : ℕ) → s ≡ f → IsFromFnResultFrom g s ys i n → (k : ℕ) (d : B) → k < n → get_or ys (i + k) d ≡ h (i + k)
+made_from g f h one s ys i zero e made k d l = absurd (omega arith)
+made_from g f h one s ys i (suc n) e (q, y, at, called, rest) zero d l =
+    let now = one i y q (subst (λ s. Called g s (i, tt) y q) e called) in
+    rw (add-zero i) (at.1 d ∙ now.1)
+made_from g f h one s ys i (suc n) e (q, y, at, called, rest) (suc k) d l =
+    let now = one i y q (subst (λ s. Called g s (i, tt) y q) e called) in
+    let same : i + suc k ≡ i + 1 + k = omega arith in
+    rw same (made_from g f h one q ys (i + 1) n now.0 rest k d (omega arith))
+
+-- The pins of a table are made of its numbers.
+pub pins_made : {F : Type 0} (g : Mut F (ℕ × Unit {0}) CellNo) (f : F) (cover : List ℕ) (at : ℕ) (new : List CellNo)
+    → IsFromFnResult g f new pins
+    → ((p : ℕ) (x : CellNo) (q : F) → Called g f (p, tt) x q → (q ≡ f) × (x ≡ cell_no (get_or cover (at + 1 + p) 0)))
+    → new ≡ pins_from cover at
 unfolding pins_from
-pin_is cover at p h = tabulated (λ (p : ℕ). cell_no (get_or cover (at + 1 + p) 0)) pins p (cell_no 0) h
+pins_made g f cover at new made one =
+    let pin = λ (p : ℕ). cell_no (get_or cover (at + 1 + p) 0) in
+    fill_by_all pin new pins (cell_no 0) made.long (λ p h. simp zero-add at (made_from g f pin one f new 0 pins refl made.each p (cell_no 0) h))
 
-pub pins_more : {cover : List ℕ} {at : ℕ} {new : List CellNo} {q : ℕ} (x : CellNo) → q < pins → x ≡ cell_no (get_or cover (at + 1 + q) 0)
-    → PinsRead cover at new q → PinsRead cover at (set new q x) (q + 1)
-pins_more {cover} {at} {new} {q} x h e r =
-    let is : pin_at (pins_from cover at) q ≡ x = pin_is cover at q h ∙ sym e in
-    let inside : q < length new = omega (arith, r.long) in
-    let inside' : q < length (pins_from cover at) = omega (arith, pins_long cover at) in
-    record {
-      few = omega arith;
-      long = length-set new q x ∙ r.long;
-      so_far = rw (add-one, take-suc-set new q x, take-suc (pins_from cover at) q (cell_no 0), is, r.so_far);
-    }
+-- The next chunk of a cover is its next table, and after the last chunk there is none.
+pub chunk_is : (cover numbers : List ℕ) {rest rest' : List ℕ} (k : ℕ) → rest ≡ drop (k * size) cover → k * size ≤ length cover
+    → rest ≡ numbers ++ rest' → length numbers ≡ size
+    → (get_or cover (k * size) 0 ≡ get_or numbers 0 0) × (rest' ≡ drop ((k + 1) * size) cover) × ((k + 1) * size ≤ length cover)
+chunk_is cover numbers {rest} {rest'} k left low e long =
+    let all : drop (k * size) cover ≡ numbers ++ rest' = sym left ∙ e in
+    let whole : length (drop (k * size) cover) ≡ length cover - k * size = length-drop (k * size) cover in
+    let parts : length (drop (k * size) cover) ≡ length numbers + length rest' = ap length all ∙ length-append numbers rest' in
+    let here : get_or (drop (k * size) cover) 0 0 ≡ get_or cover (k * size) 0 = simp add-zero at (get_or-drop (k * size) cover 0 0) in
+    let first : get_or (numbers ++ rest') 0 0 ≡ get_or numbers 0 0 = get_or-append numbers rest' 0 0 (omega (arith, long)) in
+    let next : drop (length numbers) (drop (k * size) cover) ≡ drop (k * size + length numbers) cover = drop-drop (length numbers) (k * size) cover in
+    let seam : drop (length numbers) (numbers ++ rest') ≡ rest' = drop-append_seam numbers rest' in
+    let far : k * size + length numbers ≡ (k + 1) * size = omega (arith, long) in
+    (sym here ∙ ap (λ l. get_or l 0 0) all ∙ first, sym seam ∙ ap (drop (length numbers)) (sym all) ∙ next ∙ ap (λ n. drop n cover) far, omega arith)
 
-pub pins_all : {cover : List ℕ} {at : ℕ} {new : List CellNo} {q : ℕ} → pins ≤ q → PinsRead cover at new q → new ≡ pins_from cover at
-pins_all {cover} {at} {new} {q} h r =
-    sym (take_all q new (omega (arith, r.long))) ∙ r.so_far ∙ take_all q (pins_from cover at) (omega (arith, pins_long cover at))
+pub last_chunk : (cover : List ℕ) {rest : List ℕ} (k : ℕ) → rest ≡ drop (k * size) cover → k * size ≤ length cover → length rest < size
+    → k ≡ table_count cover
+last_chunk cover k left low short =
+    let whole = ap length left ∙ length-drop (k * size) cover in
+    omega (arith, whole)
 
 -- No table is listed.
 pub none_listed : (cover tabled : List ℕ) → IsBlank tabled → Tabled cover 0 0 tabled

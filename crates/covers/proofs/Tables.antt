@@ -1,14 +1,11 @@
--- One table is judged, and then the cover.
+-- One table is judged.
 use Prim.Native.Nat.{ℕ, ◌+◌, ◌<◌, ◌≤◌}
 use mathlib.Core.Path.{◌≡◌, refl, sym, ap, ◌∙◌, subst}
 use mathlib.Core.Bool.{Bool, true, false, false≢true}
 use mathlib.Core.List.{List}
-use mathlib.Core.Logic.{inl, inr}
 use native.Mathlib.Omega.{arith}
 use native.Mathlib.Decide.{dec_lt}
-use lib.Dec.{ltb}
 use lib.ListN.{length}
-use borrow.Author.Tests.{ltb-true, ltb-false}
 use Rattle.number.specs.Counts.{of_cell}
 use Rattle.number.specs.declared.CellNo.{CellNo}
 use Rattle.tables.specs.declared.Table.{Table}
@@ -16,13 +13,12 @@ use Rattle.cells.specs.declared.Cell.{Cell}
 use Rattle.cells.specs.declared.Cell.TheVariants.{Low, High, Input, Gate, Register}
 use Rattle.cells.specs.Cells.{cell_at}
 use Rattle.cells.specs.Needs.{IsCell}
-use Rattle.cells.specs.Netlist.{Netlist}
 use Rattle.order.specs.Search.{mark, Decides}
 use Rattle.run.proofs.Rank.{past_end}
 use Rattle.cuts.specs.Cut.{pin_at, is_gate, is_source, is_constant, RightCut}
-use Rattle.covers.specs.Covers.{table_count, table_at, Carried, RightTable, Complete, RightCover, FirstWrong}
+use Rattle.covers.specs.Covers.{table_count, table_at, Carried, RightTable}
 use Rattle.cuts.specs.Cutting.{AllNew}
-use Rattle.covers.specs.Checking.{PinKnown, PinsCarried, Tabled, Says, TableJudged, Found}
+use Rattle.covers.specs.Checking.{PinsCarried, Tabled, Says, TableJudged}
 
 -- A gate is a cell, and neither a register, an input nor a constant.
 pub gate_cell : (cells : List Cell) (x : CellNo) → is_gate (cell_at cells x) ≡ true → IsCell cells x
@@ -51,15 +47,6 @@ no_source cells x e = gates_no_source (cell_at cells x) e
 
 pub no_constant : (cells : List Cell) (x : CellNo) → is_gate (cell_at cells x) ≡ true → is_constant (cell_at cells x) ≡ false
 no_constant cells x e = gates_no_constant (cell_at cells x) e
-
--- The test of a pin's mark.
-pub known_test : (cells : List Cell) (base : ℕ) (marks : List ℕ) (x : CellNo) → is_constant (cell_at cells x) ≡ false
-    → Decides (PinKnown cells base marks x) (ltb (base + 1) (mark marks x))
-known_test cells base marks x other =
-    record {
-      holds = λ e c. ltb-true (base + 1) (mark marks x) e;
-      fails = λ e h. omega (arith, ltb-false (base + 1) (mark marks x) e, h other);
-    }
 
 -- What makes a table wrong by itself.
 pub judged_no : {cells : List Cell} {tabled : List ℕ} {base : ℕ} {t : Table} {marks' : List ℕ}
@@ -116,15 +103,3 @@ module _ {cells : List Cell} {tabled : List ℕ} (t : Table) where
                 single = single;
                 cut = subst (RightCut cells) e cut;
               }
-
--- The cover.
-pub at_table : {w : Netlist} {cover tabled : List ℕ} {r : ℕ} → Found w.cells cover tabled r → r < table_count cover → FirstWrong w cover r
-at_table f h = record { before = f.before; here = inl (h, f.here h) }
-
-pub at_end : {w : Netlist} {cover tabled : List ℕ} {r : ℕ} → Found w.cells cover tabled r → table_count cover ≤ r → (Complete w cover → ⊥)
-    → FirstWrong w cover (table_count cover)
-at_end f h lacks = record { before = λ k l. f.before k (omega arith); here = inr (refl, lacks) }
-
-pub all_right : {w : Netlist} {cover tabled : List ℕ} {r : ℕ} → Found w.cells cover tabled r → table_count cover ≤ r → Complete w cover
-    → RightCover w cover
-all_right f h c = record { tables = λ k l. f.before k (omega arith); complete = c }

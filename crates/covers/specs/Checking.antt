@@ -1,6 +1,6 @@
 -- Not to be believed: what the code keeps to; the proofs check it.
 -- What the functions behind `check` keep to.
-use Rattle.std.specs.Prelude.{◌≡◌, Bool, true, false, List, ℕ, ◌+◌, ◌<◌, ◌≤◌, length}
+use Rattle.std.specs.Prelude.{◌≡◌, Bool, true, false, List, ℕ, ◌+◌, ◌<◌, ◌≤◌, length, Result, Ok, Err}
 use Rattle.number.specs.Counts.{of_cell}
 use Rattle.number.specs.declared.CellNo.{CellNo}
 use Rattle.number.specs.declared.SignalNo.{SignalNo}
@@ -13,16 +13,14 @@ use Rattle.cells.specs.Needs.{IsCell, Closed}
 use Rattle.cells.specs.Netlist.{Netlist}
 use Rattle.order.specs.Search.{mark, Decides}
 use Rattle.run.specs.Words.{is_output}
-use Rattle.covers.specs.declared.Covering.{Covering}
-use Rattle.covers.specs.declared.Covering.TheVariants.{Right, Wrong}
 use Rattle.cuts.specs.Cut.{is_constant, pin_at}
 use Rattle.cuts.specs.Cutting.{AllNew, HasOrder, Known, Lent}
 use Rattle.covers.specs.Covers.{table_count, table_at, Carried, RightTable, RightCover, FirstWrong}
 
 -- what is answered
-abbrev pub Answers : Netlist → List ℕ → Covering → Type 0
-Answers w cover Right = RightCover w cover
-Answers w cover (Wrong place) = FirstWrong w cover place
+abbrev pub Answers : Netlist → List ℕ → Result (Unit {0}) ℕ → Type 0
+Answers w cover (Ok tt) = RightCover w cover
+Answers w cover (Err place) = FirstWrong w cover place
 
 -- Which cells have a table, of the first n tables, and which have one of the first k of these.
 pub record Tabled (cover : List ℕ) (n k : ℕ) (tabled : List ℕ) : Type 0 where
@@ -69,9 +67,17 @@ pub record TableJudged (cells : List Cell) (tabled : List ℕ) (base : ℕ) (t :
   pub is : r ≡ true → IsCell cells t.cell
   pub next : r ≡ true → AllNew (base + 2) marks'
 
--- the first table that is wrong, or the number of tables
-pub record Found (cells : List Cell) (cover tabled' : List ℕ) (r : ℕ) : Type 0 where
-  pub before : (k : ℕ) → k < r → RightTable cells cover k
-  pub here : r < table_count cover → RightTable cells cover r → ⊥
-  pub most : r ≤ table_count cover
-  pub listed : Tabled cover (table_count cover) r tabled'
+-- no table is wrong, and each is passed
+pub record NoneWrong (cells : List Cell) (cover tabled' : List ℕ) : Type 0 where
+  pub each : (k : ℕ) → k < table_count cover → RightTable cells cover k
+  pub passed : Tabled cover (table_count cover) (table_count cover) tabled'
+
+-- the first table that is wrong
+pub record WrongTable (cells : List Cell) (cover : List ℕ) (place : ℕ) : Type 0 where
+  pub before : (k : ℕ) → k < place → RightTable cells cover k
+  pub low : place < table_count cover
+  pub here : RightTable cells cover place → ⊥
+
+abbrev pub Found : List Cell → List ℕ → List ℕ → Result (Unit {0}) ℕ → Type 0
+Found cells cover tabled' (Ok tt) = NoneWrong cells cover tabled'
+Found cells cover tabled' (Err place) = WrongTable cells cover place

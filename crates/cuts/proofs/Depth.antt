@@ -4,11 +4,13 @@ use Prim.Native.Nat.{ℕ, zero, suc, ◌+◌, ◌<◌}
 use mathlib.Core.Path.{◌≡◌, sym, subst, ◌∙◌}
 use mathlib.Core.List.{List}
 use native.Mathlib.Omega.{arith}
+use Rattle.std.proofs.Math.Logic.{∥∥₁_elim}
 use lib.ListN.{length}
 use Rattle.number.specs.declared.CellNo.{CellNo}
 use Rattle.cells.specs.declared.Cell.{Cell}
 use Rattle.cells.specs.Needs.{IsCell, Needs}
 use Rattle.order.specs.Paths.{Reaches, one, more, placed, Ordered}
+use Rattle.cuts.specs.Cutting.{CanOrder}
 
 module _ {cells : List Cell} {order : List ℕ} (o : Ordered cells order) where
   step : {x y : CellNo} → Needs cells x y → (p : ℕ) → p < length cells → placed order p ≡ x → (q : ℕ) × (q < p) × (placed order q ≡ y)
@@ -37,3 +39,7 @@ module _ {cells : List Cell} {order : List ℕ} (o : Ordered cells order) where
       let a = deep stack top is way j (omega arith) in
       let b = lower (way j (suc j) (omega arith) h) a.0 (omega (arith, a.1)) a.2 in
       (b.0, omega (arith, a.1, b.1), b.2)
+
+-- Where there is an order, whichever, none reaches itself.
+pub acyclic : {cells : List Cell} {x : CellNo} → CanOrder cells → IsCell cells x → Reaches cells x x → ⊥
+acyclic o is way = ∥∥₁_elim o (λ a b. absurd a) (λ w. no_cycle w.1 is way)

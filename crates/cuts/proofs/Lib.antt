@@ -4,3 +4,4 @@ pub mod Depth
 pub mod Ways
 pub mod Visits
 pub mod Setting
+pub mod Keeping

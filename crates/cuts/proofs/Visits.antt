@@ -5,6 +5,8 @@ use mathlib.Core.Bool.{Bool, true, false}
 use mathlib.Core.List.{List}
 use mathlib.Core.Logic.{⊎_elim}
 use native.Mathlib.Omega.{arith}
+use Rattle.std.proofs.Math.Logic.{∥∥₁_elim}
+use Rattle.std.specs.Coded.{le_prop}
 use lib.ListN.{length, get_or, set}
 use Rattle.number.specs.Counts.{of_cell}
 use Rattle.number.specs.Number.{pick}
@@ -26,12 +28,12 @@ use Rattle.order.specs.Paths.{placed}
 use Rattle.order.specs.Search.{mark}
 use Rattle.order.proofs.Columns.{mark_same, mark_other, same}
 use Rattle.run.specs.Held.{SolvesHeld}
-use Rattle.cuts.specs.declared.Step.TheVariants.{On, Stray}
 use Rattle.cuts.specs.Cut.{is_source, is_pin, Met}
-use Rattle.cuts.specs.Cutting.{HasOrder, Tells, Meets, new, known, Known, unknown, Cutting, Went, Strays, Stepped, on, stray}
+use Rattle.cuts.specs.Cutting.{CanOrder, Tells, Meets, new, known, Known, unknown, Cutting, Went, Strays, Stepped, on, stray}
 use Rattle.cuts.proofs.Words.{ones}
 use Rattle.cuts.proofs.Depth.{deep}
 use Rattle.cuts.proofs.Ways.{one_known, none_lost, left_deeper, left_known, no_pin, met_below, room, deeper, meets, settles}
+use Rattle.std.specs.Prelude.{Some, None}
 
 -- the settings of the pins
 pub small : (cut : List CellNo) → length cut ≡ pins → (h : CellNo → Bool) → setting h cut < settings
@@ -44,11 +46,11 @@ read_as words {x} {y} e f g = ap (cell_at (cells_of words)) (sym e) ∙ cell_at_
 
 -- what a step leaves
 pub went : {cells : List Cell} {cut : List CellNo} {c : CellNo} {base : ℕ} {marks marks' values' stack' : List ℕ} {top top' : ℕ}
-    → Stepped cells cut c base marks marks' values' stack' top (On top') → Went cells cut c base marks marks' values' stack' top top'
+    → Stepped cells cut c base marks marks' values' stack' top (Some top') → Went cells cut c base marks marks' values' stack' top top'
 went (on w) = w
 
 pub strayed : {cells : List Cell} {cut : List CellNo} {c : CellNo} {base : ℕ} {marks marks' values' stack' : List ℕ} {top : ℕ}
-    → Stepped cells cut c base marks marks' values' stack' top Stray → Strays cells cut c
+    → Stepped cells cut c base marks marks' values' stack' top None → Strays cells cut c
 strayed (stray s) = s
 
 -- An operand y is met whose word is there.
@@ -87,7 +89,7 @@ pub met_new : {base : ℕ} {marks marks' : List ℕ} {y : CellNo} → Meets base
 met_new (new h) = (h, refl)
 
 module _ {cells : List Cell} {cut : List CellNo} {c : CellNo} {base : ℕ} {marks values stack : List ℕ} {top : ℕ}
-    (k : Cutting cells cut c base marks values stack top) (some : 0 < top) (o : HasOrder cells) where
+    (k : Cutting cells cut c base marks values stack top) (some : 0 < top) (o : CanOrder cells) where
   abbrev last : CellNo
   last = placed stack (top - 1)
 
@@ -100,12 +102,9 @@ module _ {cells : List Cell} {cut : List CellNo} {c : CellNo} {base : ℕ} {mark
   pub last_cell : IsCell cells last
   last_cell = k.cell (top - 1) low
 
-  -- it lies in the columns
+  -- it lies in the column
   pub last_low : top - 1 < length stack
-  last_low = let at = deep o.1 stack top k.cell k.down (top - 1) low in omega (arith, at.1, k.lent.deep)
-
-  pub in_columns : {x : CellNo} → x ≡ last → (of_cell x < length marks) × (of_cell x < length values)
-  in_columns e = let is = ap of_cell e in (omega (arith, is, last_cell, k.lent.wide), omega (arith, is, last_cell, k.lent.valued))
+  last_low = ∥∥₁_elim o le_prop (λ w. let at = deep w.1 stack top k.cell k.down (top - 1) low in omega (arith, at.1, k.lent.deep))
 
   -- the cell on top is no pin, so it has the value that it asks for
   value_of : (h v : CellNo → Bool) (J : SignalNo → Bool) (S : ℕ → Bool) → SolvesHeld (is_pin cut) h J S cells v
@@ -172,7 +171,7 @@ module _ {cells : List Cell} {cut : List CellNo} {c : CellNo} {base : ℕ} {mark
     pub deep_enough : top < length cells
     deep_enough = room k some o a needs_a
 
-    inside : top < length stack
+    pub inside : top < length stack
     inside = omega (arith, deep_enough, k.lent.deep)
 
     -- its first operand is new

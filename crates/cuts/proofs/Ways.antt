@@ -6,6 +6,8 @@ use mathlib.Core.Bool.{true, false, true≢false}
 use mathlib.Core.List.{List, [], ◌∷◌, map}
 use mathlib.Core.Logic.{◌⊎◌, inl, inr, ⊎_elim}
 use native.Mathlib.Omega.{arith}
+use Rattle.std.proofs.Math.Logic.{∥∥₁_elim}
+use Rattle.std.specs.Coded.{le_prop}
 use native.Mathlib.Decide.{ℕ_discrete, dec_lt}
 use native.Mathlib.Nat.{mul-le-mul_right, add-mul}
 use lib.ListN.{length, get_or, set, length-set, length-map, get_or-map}
@@ -20,8 +22,8 @@ use Rattle.order.specs.Paths.{Reaches, one, more, placed}
 use Rattle.order.specs.Search.{mark, zeros}
 use Rattle.order.proofs.Columns.{same, mark_same, mark_other, placed_same, placed_other, zeros_new, zeros_again}
 use Rattle.cuts.specs.Cut.{is_source, is_pin, Met, operand, onward}
-use Rattle.cuts.specs.Cutting.{HasOrder, Lent, Tells, Known, Ready, unknown, Cutting, left}
-use Rattle.cuts.proofs.Depth.{lower, no_cycle, deep}
+use Rattle.cuts.specs.Cutting.{CanOrder, Lent, Tells, Known, Ready, unknown, Cutting, left}
+use Rattle.cuts.proofs.Depth.{lower, acyclic, deep}
 
 pub join : {cells : List Cell} {x y z : CellNo} → Reaches cells x y → Needs cells y z → Reaches cells x z
 join (one h) needs = more h (one needs)
@@ -172,11 +174,12 @@ module _ {cells : List Cell} {cut : List CellNo} {c : CellNo} {base : ℕ} {mark
     low = omega arith
 
     -- There is room for what it needs.
-    pub room : HasOrder cells → (a : CellNo) → Needs cells last a → top < length cells
-    room (order, o) a n =
-        let at = deep o stack top k.cell k.down (top - 1) low in
-        let below = lower o (one n) at.0 (omega (arith, at.1)) at.2 in
-        omega (arith, at.1, below.1)
+    pub room : CanOrder cells → (a : CellNo) → Needs cells last a → top < length cells
+    room o a n =
+        ∥∥₁_elim o le_prop (λ w.
+        let at = deep w.1 stack top k.cell k.down (top - 1) low in
+        let below = lower w.1 (one n) at.0 (omega (arith, at.1)) at.2 in
+        omega (arith, at.1, below.1))
 
     -- A new operand a comes on top.
     module _ (a : CellNo) (is : IsCell cells a) (new : mark marks a ≤ base) (n : Needs cells last a) (inside : top < length stack) where
@@ -231,7 +234,7 @@ module _ {cells : List Cell} {cut : List CellNo} {c : CellNo} {base : ℕ} {mark
           }
 
     -- Its word w becomes known.
-    module _ (o : HasOrder cells) (w : ℕ) (tells : Tells cells cut w last) (no_source : is_source (cell_at cells last) ≡ false)
+    module _ (o : CanOrder cells) (w : ℕ) (tells : Tells cells cut w last) (no_source : is_source (cell_at cells last) ≡ false)
         (all : (y : CellNo) → Needs cells last y → Known base marks y) where
       abbrev known : List ℕ
       known = set marks (of_cell last) (base + 2)
@@ -252,7 +255,7 @@ module _ {cells : List Cell} {cut : List CellNo} {c : CellNo} {base : ℕ} {mark
       -- those below it on the stack are others
       other : (j : ℕ) → j < top - 1 → placed stack j ≡ last → ⊥
       other j h e =
-          no_cycle o.1 is (subst (λ (z : CellNo). Reaches cells z last) e (k.down j (top - 1) h low))
+          acyclic o is (subst (λ (z : CellNo). Reaches cells z last) e (k.down j (top - 1) h low))
 
       root_after : (Known base marks c) ⊎ ((0 < top) × (placed stack 0 ≡ c)) → Known base known c ⊎ ((0 < top - 1) × (placed stack 0 ≡ c))
       root_after (inl h) = inl (kept c h)

@@ -1,6 +1,6 @@
 -- Not to be believed: what the code keeps to; the proofs check it.
 -- What the functions that cut a table out keep to.
-use Rattle.std.specs.Prelude.{◌≡◌, Bool, true, false, List, ◌⊎◌, ℕ, suc, ◌+◌, ◌-◌, ◌*◌, ◌<◌, ◌≤◌, map, length, get_or, set}
+use Rattle.std.specs.Prelude.{◌≡◌, Bool, true, false, List, ◌⊎◌, ℕ, suc, ◌+◌, ◌-◌, ◌*◌, ◌<◌, ◌≤◌, map, length, get_or, set, Option, Some, None}
 use Rattle.number.specs.Counts.{of_cell}
 use Rattle.number.specs.declared.CellNo.{CellNo}
 use Rattle.number.specs.declared.SignalNo.{SignalNo}
@@ -11,13 +11,15 @@ use Rattle.cells.specs.Needs.{IsCell, Needs}
 use Rattle.order.specs.Paths.{Reaches, placed, Ordered}
 use Rattle.order.specs.Search.{mark, zeros}
 use Rattle.run.specs.Held.{SolvesHeld}
-use Rattle.cuts.specs.declared.Step.{Step}
-use Rattle.cuts.specs.declared.Step.TheVariants.{On, Stray}
 use Rattle.cuts.specs.Cut.{Met, is_pin, is_source, pin_at}
 
 -- the cells can be ordered, so that none reaches itself
 abbrev pub HasOrder : List Cell → Type 0
 HasOrder cells = (order : List ℕ) × Ordered cells order
+
+-- what a struct can keep of it: that there is an order, and not which
+abbrev pub CanOrder : List Cell → Type 0
+CanOrder cells = ∥ HasOrder cells ∥₁
 
 -- the word w has bit p of each setting b: pin p's value there
 pub record PinWord (p w : ℕ) : Type 0 where
@@ -130,10 +132,10 @@ pub record Strays (cells : List Cell) (cut : List CellNo) (c : CellNo) : Type 0 
   pub no_pin : is_pin cut at ≡ false
 
 pub data Stepped (cells : List Cell) (cut : List CellNo) (c : CellNo) (base : ℕ) (marks marks' values' stack' : List ℕ)
-    (top : ℕ) : Step → Type 0 where
+    (top : ℕ) : Option ℕ → Type 0 where
   on : {top' : ℕ} → Went cells cut c base marks marks' values' stack' top top'
-      → Stepped cells cut c base marks marks' values' stack' top (On top')
-  stray : Strays cells cut c → Stepped cells cut c base marks marks' values' stack' top Stray
+      → Stepped cells cut c base marks marks' values' stack' top (Some top')
+  stray : Strays cells cut c → Stepped cells cut c base marks marks' values' stack' top None
 
 -- the way down from the cell c was gone to its end, or it strays
 pub record CutOut (cells : List Cell) (cut : List CellNo) (c : CellNo) (base : ℕ) (marks' values' stack' : List ℕ) (r : Bool) : Type 0 where

@@ -5,6 +5,7 @@
 #![tactic(auto)]
 
 ghost use Rattle.std.specs.Prelude.{◌≡◌, false, List, ℕ, ◌+◌, ◌<◌, ◌≤◌, length, set};
+ghost use Rattle.std.proofs.Props.{props};
 ghost use Rattle.number.specs.Counts.{of_cell};
 ghost use Rattle.number.specs.declared.CellNo.{CellNo};
 ghost use Rattle.tables.specs.Answering.{pins, settings, bit};
@@ -13,19 +14,12 @@ ghost use Rattle.cells.specs.Words.{cells_of};
 ghost use Rattle.cells.specs.Needs.{IsCell, Closed};
 ghost use Rattle.order.specs.Search.{mark};
 ghost use Rattle.cuts.specs.Cut.{pin_at, is_source};
-ghost use Rattle.cuts.specs.Cutting.{HasOrder, PinWord, AlikeIn, Lent, AllNew, Pinned, PinSet, Roomy, Meets, Ready};
+ghost use Rattle.cuts.specs.Cutting.{CanOrder, PinWord, AlikeIn, Lent, AllNew, Pinned, PinSet, Roomy, Meets, Ready};
 ghost use Rattle.cuts.specs.Cutting.{Cutting, Going, Stepped, CutOut};
 
 use cells::{Cell, Gate};
 use number::CellNo;
 use tables::Table;
-
-// After a visit to the cell on top: so many cells are on the way; or it is a register or an input that is no pin.
-#[derive(Clone, Copy)]
-enum Step {
-    On(usize),
-    Stray,
-}
 
 // A word for each pin: pin p at setting b has bit p of b.
 const PIN_WORDS: [u16; Table::PINS] = [0xaaaa, 0xcccc, 0xf0f0, 0xff00];
@@ -37,7 +31,8 @@ fn pin_word(p: usize) -> u16
     PIN_WORDS[p]
 }
 
-// A gate at every setting.
+// A gate at every setting: on words what `cells::gate_value` is on truth values. One function over both types would want a trait with a law for each gate, and
+// two impls of it, which is more to read than three arms.
 fn gate_word(g: Gate, a: u16, b: u16) -> u16
     ensures { (k : ℕ) → k < settings → bit result k ≡ truth g (bit a k) (bit b k) }
 {
@@ -55,129 +50,142 @@ fn alike(a: u16, b: u16) -> u16
     (a & b) | !(a | b)
 }
 
-// The net x at a pin waits to be met. The settings that count: "One pin net given twice must carry equal values to count as a setting."
-fn set_pin(marks: &mut [u64], values: &mut [u16], base: u64, x: CellNo, word: u16) -> u16
-    requires { Roomy base × (of_cell x < length marks.old) × (of_cell x < length values.old) }
-    ensures { PinSet base marks.old values.old x word marks.new values.new result }
-{
-    let n = x.number() as usize;
-    if base < marks[n] {
-        return alike(values[n], word);
-    }
-    marks[n] = base + 1;
-    values[n] = word;
-    u16::MAX
+// The cells, the work columns, an entry for each cell, and the base that the marks are counted from.
+#[derive(Drop)]
+pub struct Cutter<'a> {
+    pub cells: &'a [u64],
+    pub marks: &'a mut [u64],
+    pub values: &'a mut [u16],
+    pub stack: &'a mut [u16],
+    pub base: u64,
+    ghost roomy: { Roomy base },
+    ghost lent: { Lent (cells_of cells.now) marks.now values.now stack.now } by { Prim.hlevel props },
+    ghost closed: { Closed (cells_of cells.now) } by { Prim.hlevel props },
+    ghost order: { CanOrder (cells_of cells.now) },
 }
 
-// All pins. Its caller also learns here that there are as many as the array's type says.
-pub fn set_pins(marks: &mut [u64], values: &mut [u16], base: u64, cut: [CellNo; Table::PINS]) -> u16
-    requires { Roomy base × AllNew base marks.old × ((p : ℕ) → p < pins → of_cell (pin_at cut p) < length marks.old)
-        × ((p : ℕ) → p < pins → of_cell (pin_at cut p) < length values.old) }
-    ensures { Pinned cut base marks.new values.new pins result × (length cut ≡ pins) }
-{
-    let mut counts = u16::MAX;
-    let mut p: usize = 0;
-    while p < Table::PINS {
-        let x = cut[p];
-        let more = set_pin(marks, values, base, x, pin_word(p));
-        counts = counts & more;
-        p += 1;
-    }
-    counts
-}
+impl Cutter<'_> {
+    // These words name the struct, so they are not imported above it.
+    ghost use Rattle.cuts.specs.Kept.{Keeps};
 
-// Whether the word of x is known. A pin that waited is met now.
-fn meet(marks: &mut [u64], base: u64, x: CellNo) -> bool
-    requires { Roomy base × (of_cell x < length marks.old) }
-    ensures { Meets base marks.old x marks.new result }
-{
-    let n = x.number() as usize;
-    if marks[n] <= base {
-        return false;
-    }
-    marks[n] = base + 2;
-    true
-}
-
-// The word of x.
-fn settle(marks: &mut [u64], values: &mut [u16], base: u64, x: CellNo, word: u16)
-    requires { Roomy base × (of_cell x < length marks.old) × (of_cell x < length values.old) }
-    ensures { (marks.new ≡ set marks.old (of_cell x) (base + 2))
-        × (values.new ≡ set values.old (of_cell x) word) }
-{
-    let n = x.number() as usize;
-    marks[n] = base + 2;
-    values[n] = word;
-}
-
-// The cell on top: an operand that is new comes on top of it, or its word is known.
-fn visit(
-    cells: &[u64],
-    marks: &mut [u64],
-    values: &mut [u16],
-    stack: &mut [u16],
-    base: u64,
-    top: usize,
-) -> Step
-    requires { Roomy base × Closed (cells_of cells.now) × HasOrder (cells_of cells.now) × (0 < top)
-        × Going (cells_of cells.now) base marks.old values.old stack.old top }
-    ensures { (cut : List CellNo) (c : CellNo)
-        → Cutting (cells_of cells.now) cut c base marks.old values.old stack.old top
-        → Stepped (cells_of cells.now) cut c base marks.old marks.new values.new
-        stack.new top result }
-{
-    let at = top - 1;
-    let x = CellNo::new(stack[at]);
-    match cells::cell_at(cells, x) {
-        Cell::Low => {
-            settle(marks, values, base, x, 0);
-            Step::On(at)
+    // The net x at a pin waits to be met. The settings that count: "One pin net given twice must carry equal values to count as a setting."
+    fn set_pin(&mut self, x: CellNo, word: u16) -> u16
+        requires { IsCell (cells_of self.old.cells.now) x }
+        ensures kept { Keeps self.old self.new }
+        ensures set { PinSet self.old.base self.old.marks.now self.old.values.now x word self.new.marks.now self.new.values.now result }
+    {
+        let n = x.number() as usize;
+        if self.base < self.marks[n] {
+            return alike(self.values[n], word);
         }
-        Cell::High => {
-            settle(marks, values, base, x, u16::MAX);
-            Step::On(at)
-        }
-        Cell::Input(_) => Step::Stray,
-        Cell::Gate(g, a, b) => {
-            if !meet(marks, base, a) {
-                stack[top] = a.number();
-                return Step::On(top + 1);
-            }
-            if !meet(marks, base, b) {
-                stack[top] = b.number();
-                return Step::On(top + 1);
-            }
-            let word = gate_word(g, values[a.number() as usize], values[b.number() as usize]);
-            settle(marks, values, base, x, word);
-            Step::On(at)
-        }
-        Cell::Register(_) => Step::Stray,
+        self.marks[n] = self.base + 1;
+        self.values[n] = word;
+        u16::MAX
     }
-}
 
-// The way down from the table's cell. Whether it meets no register and no input that is no pin.
-pub fn cut_out(
-    cells: &[u64],
-    marks: &mut [u64],
-    values: &mut [u16],
-    stack: &mut [u16],
-    base: u64,
-    t: Table,
-) -> bool
-    requires { Roomy base × Closed (cells_of cells.now) × HasOrder (cells_of cells.now)
-        × Lent (cells_of cells.now) marks.old values.old stack.old
-        × (is_source (cell_at (cells_of cells.now) t.cell) ≡ false) × IsCell (cells_of cells.now) t.cell
-        × (mark marks.old t.cell ≤ base) × Ready (cells_of cells.now) t.pins base marks.old values.old }
-    ensures { CutOut (cells_of cells.now) t.pins t.cell base marks.new values.new
-        stack.new result }
-{
-    stack[0] = t.cell.number();
-    let mut top: usize = 1;
-    while 0 < top {
-        let Step::On(t) = visit(cells, marks, values, stack, base, top) else {
+    // All pins. Its caller also learns here that there are as many as the array's type says.
+    pub fn set_pins(&mut self, cut: [CellNo; Table::PINS]) -> u16
+        requires { AllNew self.old.base self.old.marks.now × ((p : ℕ) → p < pins → IsCell (cells_of self.old.cells.now) (pin_at cut p)) }
+        ensures kept { Keeps self.old self.new }
+        ensures pinned { Pinned cut self.old.base self.new.marks.now self.new.values.now pins result }
+        ensures long { length cut ≡ pins }
+    {
+        let mut counts = u16::MAX;
+        for (p, x) in cut.iter().enumerate() {
+            counts &= self.set_pin(*x, pin_word(p));
+        }
+        counts
+    }
+
+    // Whether the word of x is known. A pin that waited is met now.
+    fn meet(&mut self, x: CellNo) -> bool
+        requires { IsCell (cells_of self.old.cells.now) x }
+        ensures kept { Keeps self.old self.new }
+        ensures met { Meets self.old.base self.old.marks.now x self.new.marks.now result }
+        ensures values { self.new.values.now ≡ self.old.values.now }
+        ensures stack { self.new.stack.now ≡ self.old.stack.now }
+    {
+        let n = x.number() as usize;
+        if self.marks[n] <= self.base {
             return false;
-        };
-        top = t;
+        }
+        self.marks[n] = self.base + 2;
+        true
     }
-    true
+
+    // The word of x.
+    fn settle(&mut self, x: CellNo, word: u16)
+        requires { IsCell (cells_of self.old.cells.now) x }
+        ensures kept { Keeps self.old self.new }
+        ensures marks { self.new.marks.now ≡ set self.old.marks.now (of_cell x) (self.old.base + 2) }
+        ensures values { self.new.values.now ≡ set self.old.values.now (of_cell x) word }
+        ensures stack { self.new.stack.now ≡ self.old.stack.now }
+    {
+        let n = x.number() as usize;
+        self.marks[n] = self.base + 2;
+        self.values[n] = word;
+    }
+
+    // The cell on top: an operand that is new comes on top of it, or its word is known. So many cells are on the way then; none, where it is a register or an
+    // input that is no pin.
+    fn visit(&mut self, top: usize) -> Option<usize>
+        requires { (0 < top) × Going (cells_of self.old.cells.now) self.old.base self.old.marks.now self.old.values.now self.old.stack.now top }
+        ensures kept { Keeps self.old self.new }
+        ensures stepped { (cut : List CellNo) (c : CellNo)
+            → Cutting (cells_of self.old.cells.now) cut c self.old.base self.old.marks.now self.old.values.now self.old.stack.now top
+            → Stepped (cells_of self.old.cells.now) cut c self.old.base self.old.marks.now self.new.marks.now self.new.values.now
+            self.new.stack.now top result }
+    {
+        let at = top - 1;
+        let x = CellNo::new(self.stack[at]);
+        match cells::cell_at(self.cells, x) {
+            Cell::Low => {
+                self.settle(x, 0);
+                Some(at)
+            }
+            Cell::High => {
+                self.settle(x, u16::MAX);
+                Some(at)
+            }
+            Cell::Input(_) => None,
+            Cell::Gate(g, a, b) => {
+                if !self.meet(a) {
+                    self.stack[top] = a.number();
+                    return Some(top + 1);
+                }
+                if !self.meet(b) {
+                    self.stack[top] = b.number();
+                    return Some(top + 1);
+                }
+                let word = gate_word(
+                    g,
+                    self.values[a.number() as usize],
+                    self.values[b.number() as usize],
+                );
+                self.settle(x, word);
+                Some(at)
+            }
+            Cell::Register(_) => None,
+        }
+    }
+
+    // The way down from the table's cell. Whether it meets no register and no input that is no pin.
+    pub fn cut_out(&mut self, t: Table) -> bool
+        requires { (is_source (cell_at (cells_of self.old.cells.now) t.cell) ≡ false) × IsCell (cells_of self.old.cells.now) t.cell
+            × (mark self.old.marks.now t.cell ≤ self.old.base)
+            × Ready (cells_of self.old.cells.now) t.pins self.old.base self.old.marks.now self.old.values.now }
+        ensures kept { Keeps self.old self.new }
+        ensures cut { CutOut (cells_of self.old.cells.now) t.pins t.cell self.old.base self.new.marks.now self.new.values.now self.new.stack.now result }
+    {
+        self.stack[0] = t.cell.number();
+        let mut top: usize = 1;
+        // No index: cells come on the stack and go.
+        while 0 < top {
+            let Some(next) = self.visit(top) else {
+                return false;
+            };
+            top = next;
+        }
+        true
+    }
 }

@@ -10,7 +10,6 @@ use lib.Seq.{length-take-le, drop-drop, drop-append_seam}
 use borrow.Author.Tests.{le-ltb}
 use Rattle.number.specs.declared.CellNo.{CellNo}
 use Rattle.number.specs.declared.Cursor.{Cursor}
-use Rattle.number.specs.declared.NumberRead.TheVariants.{Value}
 use Rattle.number.specs.Counts.{cell_no, of_cell, of_signal}
 use Rattle.number.specs.Number.{cursor, number_at, number_bytes, number_length, Bytes}
 use Rattle.number.proofs.Laws.{length_at_least, read_bytes, Spelled, only_spelling}
@@ -35,13 +34,14 @@ use Rattle.files.proofs.Truths.{table_small}
 use Rattle.files.proofs.Judging.{KindRight, right_count, right_kind}
 use Rattle.files.proofs.Standing.{PairStands, own, table, Operands, CellStands, CellsStand}
 use Rattle.files.proofs.Sound.{FileStands, file_stands, stands_file}
+use Rattle.std.specs.Prelude.{Ok}
 
 -- Bytes that stand in s are read.
 
 -- v stands at `at`, and behind it the rest
 record NumberIn (s : List ℕ) (at v : ℕ) (rest : List ℕ) : Type 0 where
   past : Cursor
-  number : number_at s at ≡ Value v past
+  number : number_at s at ≡ Ok (v, past)
   behind : drop past.at s ≡ rest
 
 drop_past : (s : List ℕ) (at : ℕ) (a b : List ℕ) → drop at s ≡ a ++ b → drop (at + length a) s ≡ b
@@ -52,7 +52,7 @@ number_in s at v rest small e =
     let more : length s - at ≡ number_length v + length rest = sym (length-drop at s) ∙ ap length e ∙ length-append (number_bytes v) rest in
     let front : length (take at s) ≡ at = length-take-le at s (omega (arith, length_at_least v)) in
     let whole : s ≡ take at s ++ (number_bytes v ++ rest) = sym (take-append-drop at s) ∙ ap (λ (l : List ℕ). take at s ++ l) e in
-    let read : number_at (take at s ++ (number_bytes v ++ rest)) at ≡ Value v (cursor (at + number_length v)) =
+    let read : number_at (take at s ++ (number_bytes v ++ rest)) at ≡ Ok (v, cursor (at + number_length v)) =
     rw front at (read_bytes (take at s) rest v small) in
     record {
       past = cursor (at + number_length v);
@@ -272,7 +272,7 @@ and_then {s} {at} {mid} {end} {a} {b} p q =
     record { is = p.is ∙ ap (λ (l : List ℕ). a ++ l) q.is ∙ sym (append_assoc a b (drop end s)) }
 
 module _ (s : List ℕ) (are : Bytes s) where
-  number_between : {at v : ℕ} {past : Cursor} → number_at s at ≡ Value v past → Between s at past.at (number_bytes v)
+  number_between : {at v : ℕ} {past : Cursor} → number_at s at ≡ Ok (v, past) → Between s at past.at (number_bytes v)
   number_between {at} {v} {past} e =
       let spelled : Spelled s at v past = only_spelling s at are e in
       record { is = rw spelled.past spelled.bytes }
@@ -288,7 +288,7 @@ module _ (s : List ℕ) (are : Bytes s) where
     between : Between s at end bytes
 
   cell_spelled : (m : ℕ) (x : CellNo) (at k : ℕ) (mid : Cursor) (c : Cell) (past : Cursor) (cs : List Cell) (end : ℕ)
-      → number_at s at ≡ Value k mid → Operands s m x mid.at k c past → AllSpelled past.at end cs → AllSpelled at end (c ∷ cs)
+      → number_at s at ≡ Ok (k, mid) → Operands s m x mid.at k c past → AllSpelled past.at end cs → AllSpelled at end (c ∷ cs)
   cell_spelled m x at k mid Low past cs end e (is, h) rest =
       let kind = rw is at e in
       record {

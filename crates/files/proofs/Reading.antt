@@ -9,7 +9,6 @@ use borrow.Author.Tests.{eq-eqb, ne_eqb}
 use Rattle.number.specs.declared.CellNo.{CellNo}
 use Rattle.number.specs.declared.Cursor.{Cursor}
 use Rattle.number.specs.declared.Fault.{Fault}
-use Rattle.number.specs.declared.NumberRead.TheVariants.{Value}
 use Rattle.number.specs.declared.Refusal.TheVariants.{Cell as CellFault}
 use Rattle.number.specs.Counts.{cell_no, of_cell, signal_no}
 use Rattle.number.specs.Number.{pick}
@@ -19,18 +18,17 @@ use Rattle.cells.specs.declared.Cell.TheVariants.{Input}
 use Rattle.cells.specs.Words.{word}
 use Rattle.cells.specs.Values.{tally}
 use Rattle.cells.proofs.Counting.{tally_le}
-use Rattle.files.specs.declared.CellRead.TheVariants.{Read, Refused as NoCell}
-use Rattle.files.specs.declared.CellsRead.TheVariants.{Past, Refused as NoCells}
 use Rattle.files.specs.Read.{input_of, read_cell, CellsOutcome, got, refused, in_front, and_then, read_cells}
 use Rattle.files.specs.Answer.{cells_answer, CellsLaid, DidCells}
+use Rattle.std.specs.Prelude.{Ok, Err}
 
 -- the operand of an input is the number before the cell's, or it is CELL
 module _ (x : CellNo) (at v : ℕ) (c : Cursor) where
-  pub input_right : v + 1 ≡ of_cell x → input_of x at (Value v c) ≡ Read (Input (signal_no v)) c
+  pub input_right : v + 1 ≡ of_cell x → input_of x at (Ok (v, c)) ≡ Ok (Input (signal_no v), c)
   unfolding input_of pick
   input_right h = simp (eq-eqb (suc v) (of_cell x) (omega arith))
 
-  pub input_wrong : (v + 1 ≡ of_cell x → ⊥) → input_of x at (Value v c) ≡ NoCell (fault CellFault at)
+  pub input_wrong : (v + 1 ≡ of_cell x → ⊥) → input_of x at (Ok (v, c)) ≡ Err (fault CellFault at)
   unfolding input_of pick
   input_wrong h = simp (ne_eqb (suc v) (of_cell x) (λ z. h (omega arith)))
 
@@ -72,13 +70,13 @@ module _ (s : List ℕ) (I m start : ℕ) (column₀ : List ℕ) where
     unfolding read_cells
     one_cell h = let less : m - n ≡ suc (m - suc n) = omega arith in rw less
 
-    pub stops : {f : Fault} → n < m → read_cell s I m (cell_no n) registers at ≡ NoCell f → DidCells (whole) (NoCells f) column₀ column
+    pub stops : {f : Fault} → n < m → read_cell s I m (cell_no n) registers at ≡ Err f → DidCells (whole) (Err f) column₀ column
     unfolding and_then cells_answer CellsLaid
     stops {f} h e =
         let this : left n registers at ≡ refused f = one_cell h ∙ rw e in
         record { answer = rw this at r.answer; laid = r.laid column (rw this tt) }
 
-    pub goes_on : {c : Cell} {past : Cursor} → n < m → read_cell s I m (cell_no n) registers at ≡ Read c past
+    pub goes_on : {c : Cell} {past : Cursor} → n < m → read_cell s I m (cell_no n) registers at ≡ Ok (c, past)
         → Reading (n + 1) (tally c registers) past.at (set column n (word c))
     unfolding and_then
     goes_on {c} {past} h e =
@@ -92,7 +90,7 @@ module _ (s : List ℕ) (I m start : ℕ) (column₀ : List ℕ) where
           laid = λ l h. r.laid l (rw this (front_laid n c next column l h));
         }
 
-    pub ends : m ≤ n → DidCells (whole) (Past at) column₀ column
+    pub ends : m ≤ n → DidCells (whole) (Ok at) column₀ column
     unfolding read_cells cells_answer CellsLaid
     ends h =
         let none : m - n ≡ 0 = omega arith in

@@ -9,8 +9,6 @@ use lib.ListN.{length}
 use borrow.Author.Tests.{ne_eqb, ltb-false, le-ltb}
 use Rattle.number.specs.declared.CellNo.{CellNo}
 use Rattle.number.specs.declared.Cursor.{Cursor}
-use Rattle.number.specs.declared.NumberRead.{NumberRead}
-use Rattle.number.specs.declared.NumberRead.TheVariants.{Value, Refused as NoNumber}
 use Rattle.number.specs.Counts.{cell_no}
 use Rattle.number.specs.Number.{pick, number_at}
 use Rattle.limits.specs.Limits.{max_signals, max_registers, many_signals}
@@ -23,13 +21,14 @@ use Rattle.cells.specs.Values.{tally}
 use Rattle.cells.specs.Netlist.{Netlist, kind_fits, is_net, operands_fit, WellFormed}
 use Rattle.cells.proofs.Words.{gate_kind_low}
 use Rattle.cells.proofs.Fitting.{tally_room, Fit, fit_none, fit_more}
-use Rattle.files.specs.declared.Judgement.{Judgement}
-use Rattle.files.specs.declared.Judgement.TheVariants.{Right, Wrong}
 use Rattle.files.specs.Judge.{judge_count, file_kinds}
 use Rattle.files.specs.Read.{CellsOutcome, got, refused, read_cells, FileOutcome, netlist, faulty, ended, body_at, counted, after_count, count_at}
 use Rattle.files.specs.Read.{after_outputs, after_inputs, read_file}
 use Rattle.files.proofs.Judging.{count_right, kind_right}
 use Rattle.files.proofs.Standing.{by_test, PairStands, own, table, Operands, CellsStand, AllStand, cells_stand, stand_read}
+use Rattle.number.specs.declared.Fault.{Fault}
+use Rattle.number.specs.declared.Refusal.{Refusal}
+use Rattle.std.specs.Prelude.{Result, Ok, Err}
 
 -- Cells that stand in a file fit.
 
@@ -89,11 +88,11 @@ pub record FileStands (s : List ℕ) (w : Netlist) : Type 0 where
   pub third : Cursor
   pub body : Cursor
   pub end : ℕ
-  pub inputs : number_at s 0 ≡ Value w.inputs second
-  pub outputs : number_at s second.at ≡ Value w.outputs third
+  pub inputs : number_at s 0 ≡ Ok (w.inputs, second)
+  pub outputs : number_at s second.at ≡ Ok (w.outputs, third)
   pub signals : many_signals w.inputs w.outputs ≡ false
-  pub count : number_at s third.at ≡ Value (length w.cells) body
-  pub enough : judge_count w.inputs w.outputs (length w.cells) ≡ Right
+  pub count : number_at s third.at ≡ Ok (length w.cells, body)
+  pub enough : judge_count w.inputs w.outputs (length w.cells) ≡ Ok tt
   pub cells : CellsStand s w.inputs (length w.cells) (cell_no 0) 0 body.at w.cells end
   pub last : length s ≤ end
 
@@ -102,9 +101,9 @@ module _ (s : List ℕ) where
   FileFound (faulty f) = Unit
   FileFound (netlist w) = FileStands s w
 
-  module _ (I O m : ℕ) (second third body : Cursor) (i : number_at s 0 ≡ Value I second) (o : number_at s second.at ≡ Value O third)
+  module _ (I O m : ℕ) (second third body : Cursor) (i : number_at s 0 ≡ Ok (I, second)) (o : number_at s second.at ≡ Ok (O, third))
       (few : many_signals I O ≡ false) where
-    body_found : number_at s third.at ≡ Value m body → judge_count I O m ≡ Right → FileFound (body_at s I O m body.at)
+    body_found : number_at s third.at ≡ Ok (m, body) → judge_count I O m ≡ Ok tt → FileFound (body_at s I O m body.at)
     unfolding body_at ended
     body_found e right = go (read_cells m s I m (cell_no 0) 0 body.at) refl
       where
@@ -127,31 +126,31 @@ module _ (s : List ℕ) where
               last = ltb-false end (length s) t;
             })
 
-    counted_found : number_at s third.at ≡ Value m body → (j : Judgement) → judge_count I O m ≡ j
+    counted_found : number_at s third.at ≡ Ok (m, body) → (j : Result (Unit {0}) Refusal) → judge_count I O m ≡ j
         → FileFound (counted s I O m third.at body.at j)
     unfolding counted
-    counted_found e (Wrong r) q = tt
-    counted_found e Right q = body_found e q
+    counted_found e (Err r) q = tt
+    counted_found e (Ok tt) q = body_found e q
 
   file_found : FileFound (read_file s)
   unfolding read_file after_count after_outputs count_at after_inputs
   file_found = from_inputs (number_at s 0) refl
     where
-      from_count : (I O : ℕ) (second third : Cursor) → number_at s 0 ≡ Value I second → number_at s second.at ≡ Value O third
-          → many_signals I O ≡ false → (r : NumberRead) → number_at s third.at ≡ r → FileFound (after_count s I O third.at r)
-      from_count I O second third i o few (NoNumber f) e = tt
-      from_count I O second third i o few (Value m body) e = counted_found I O m second third body i o few e (judge_count I O m) refl
+      from_count : (I O : ℕ) (second third : Cursor) → number_at s 0 ≡ Ok (I, second) → number_at s second.at ≡ Ok (O, third)
+          → many_signals I O ≡ false → (r : Result (ℕ × Cursor) Fault) → number_at s third.at ≡ r → FileFound (after_count s I O third.at r)
+      from_count I O second third i o few (Err f) e = tt
+      from_count I O second third i o few (Ok (m, body)) e = counted_found I O m second third body i o few e (judge_count I O m) refl
 
-      from_outputs : (I : ℕ) (second : Cursor) → number_at s 0 ≡ Value I second → (r : NumberRead) → number_at s second.at ≡ r
+      from_outputs : (I : ℕ) (second : Cursor) → number_at s 0 ≡ Ok (I, second) → (r : Result (ℕ × Cursor) Fault) → number_at s second.at ≡ r
           → FileFound (after_outputs s I second.at r)
-      from_outputs I second i (NoNumber f) e = tt
-      from_outputs I second i (Value O third) e =
+      from_outputs I second i (Err f) e = tt
+      from_outputs I second i (Ok (O, third)) e =
           by_test FileFound (many_signals I O) _ (count_at s I O third.at) (λ t. tt)
           (λ t. from_count I O second third i e t (number_at s third.at) refl)
 
-      from_inputs : (r : NumberRead) → number_at s 0 ≡ r → FileFound (after_inputs s r)
-      from_inputs (NoNumber f) e = tt
-      from_inputs (Value I second) e = from_outputs I second e (number_at s second.at) refl
+      from_inputs : (r : Result (ℕ × Cursor) Fault) → number_at s 0 ≡ r → FileFound (after_inputs s r)
+      from_inputs (Err f) e = tt
+      from_inputs (Ok (I, second)) e = from_outputs I second e (number_at s second.at) refl
 
   -- a file that was read stands in its bytes
   pub file_stands : {w : Netlist} → read_file s ≡ netlist w → FileStands s w

@@ -6,7 +6,8 @@ use mathlib.Core.List.{List, [], ◌∷◌, ◌++◌, map}
 use native.Mathlib.Omega.{arith}
 use native.Mathlib.Nat.{add-zero}
 use lib.ListN.{length, set, length-append, length-map}
-use lib.Seq.{sets, length-sets, set-set, set_comm}
+use lib.Seq.{sets, set-set, set_comm}
+use Rattle.std.proofs.lemmas.List.{map-append}
 use Rattle.number.specs.Counts.{cell_no}
 use Rattle.number.specs.Number.{pick}
 use Rattle.number.specs.declared.CellNo.{CellNo}
@@ -17,23 +18,26 @@ use Rattle.cells.specs.declared.Gate.TheVariants.{Or, And, Butnot}
 use Rattle.cells.specs.declared.Cell.TheVariants.{Gate}
 use Rattle.cells.specs.Cells.{low, is_low}
 use Rattle.cells.specs.Words.{word}
+use Rattle.gates.specs.declared.Column.{Column}
 use Rattle.gates.specs.Folding.{New, old, new, first_low, second_low, gate_at}
-use Rattle.gates.specs.Store.{WroteCells, Makes}
+use Rattle.gates.specs.Store.{WroteCells, Fills, Makes}
 
-pub wrote_none : (l : List ℕ) (n : ℕ) → WroteCells l l n n []
-wrote_none l n = record { stored = refl; counted = sym (add-zero n) }
-
-map_append : (u v : List Cell) → map word (u ++ v) ≡ map word u ++ map word v
-map_append [] v = refl
-map_append (c ∷ u) v = ap (λ (l : List ℕ). word c ∷ l) (map_append u v)
+pub wrote_none : (c : Column) → WroteCells c c []
+wrote_none c = record { same = refl; stored = refl; counted = sym (add-zero c.count) }
 
 -- more cells after some
-pub wrote_more : {l l₁ l₂ : List ℕ} {n n₁ n₂ : ℕ} {u v : List Cell} → WroteCells l l₁ n n₁ u → WroteCells l₁ l₂ n₁ n₂ v → WroteCells l l₂ n n₂ (u ++ v)
-wrote_more {l} {l₁} {l₂} {n} {n₁} {n₂} {u} {v} p q =
-    let place : n₁ ≡ n + length (map word u) = p.counted ∙ ap (λ (k : ℕ). n + k) (sym (length-map u word)) in
+pub stored_more : (l : List ℕ) (n : ℕ) (u v : List Cell) {l₁ l₂ : List ℕ} {n₁ : ℕ} → l₁ ≡ sets l n (map word u) → n₁ ≡ n + length u
+    → l₂ ≡ sets l₁ n₁ (map word v) → l₂ ≡ sets l n (map word (u ++ v))
+stored_more l n u v {l₁} {l₂} {n₁} p e q =
+    let place : n₁ ≡ n + length (map word u) = e ∙ ap (λ (k : ℕ). n + k) (sym (length-map u word)) in
+    q ∙ rw (p, place, map-append word u v) (sym (sets_append l n (map word u) (map word v)))
+
+pub wrote_more : {c c₁ c₂ : Column} {u v : List Cell} → WroteCells c c₁ u → WroteCells c₁ c₂ v → WroteCells c c₂ (u ++ v)
+wrote_more {c} {u = u} {v = v} p q =
     record {
-      stored = q.stored ∙ rw (p.stored, place, map_append u v) (sym (sets_append l n (map word u) (map word v)));
-      counted = rw (length-append u v) (omega arith);
+      same = q.same ∙ p.same;
+      stored = stored_more c.cells.now c.count u v p.stored p.counted q.stored;
+      counted = rw (length-append u v) (omega (arith, p.counted, q.counted));
     }
 
 -- stores at other places may be made in either order
@@ -43,42 +47,37 @@ set_below l n m v (x ∷ u) h =
     set_below (set l m x) n (suc m) v u (omega arith) ∙ ap (λ (r : List ℕ). sets r (suc m) u) (set_comm l m n x v (λ e. omega arith))
 
 -- "Cells marked * are reserved at once, unfolded, their last operand filled later.": the cell v is filled in for w once the cells u after it are made
-pub wrote_fill : {l l₁ l₂ : List ℕ} {n n₁ n₂ : ℕ} {u : List Cell} {w v : Cell}
-    → WroteCells l l₁ n n₁ (w ∷ []) → WroteCells l₁ l₂ n₁ n₂ u → WroteCells l (set l₂ n (word v)) n n₂ (v ∷ u)
-wrote_fill {l} {l₁} {l₂} {n} {n₁} {n₂} {u} {w} {v} p q =
-    let next : n₁ ≡ suc n = omega (arith, p.counted) in
+pub wrote_fill : {c c₁ c₂ c₃ : Column} {u : List Cell} {w v : Cell} → WroteCells c c₁ (w ∷ []) → WroteCells c₁ c₂ u → Fills (cell_no c.count) v c₂ c₃
+    → WroteCells c c₃ (v ∷ u)
+wrote_fill {c} {c₁} {c₂} {u = u} {w = w} {v = v} p q f =
+    let l : List ℕ = c.cells.now in
+    let n : ℕ = c.count in
+    let next : c₁.count ≡ suc n = omega (arith, p.counted) in
     let past : set (sets (set l n (word w)) (suc n) (map word u)) n (word v) ≡ sets (set l n (word v)) (suc n) (map word u) =
     set_below (set l n (word w)) n (suc n) (word v) (map word u) (omega arith)
     ∙ ap (λ (r : List ℕ). sets r (suc n) (map word u)) (set-set l n (word w) (word v)) in
     record {
-      stored = ap (λ (r : List ℕ). set r n (word v)) q.stored ∙ rw (p.stored, next) past;
-      counted = omega (arith, q.counted);
+      same = f.same ∙ q.same ∙ p.same;
+      stored = f.stored ∙ ap (λ (r : List ℕ). set r n (word v)) q.stored ∙ rw (p.stored, next) past;
+      counted = omega (arith, f.counted, q.counted, next);
     }
 
--- the column keeps its length
-pub wrote_length : {l l' : List ℕ} {n n' : ℕ} {u : List Cell} → WroteCells l l' n n' u → length l' ≡ length l
-wrote_length {l} {l'} {n} {n'} {u} w = ap length w.stored ∙ length-sets l n (map word u)
-
 -- a net that was there
-pub makes_old : (most : ℕ) (l : List ℕ) (n : ℕ) (x : CellNo) → Makes most (old x) l l n n x
-makes_old most l n x = record { wrote = wrote_none l n; is = refl; few = omega arith }
-
--- a new cell
-pub makes_new : (l l' : List ℕ) (n : ℕ) (c : Cell) → l' ≡ set l n (word c) → Makes 1 (new n c) l l' n (n + 1) (cell_no n)
-makes_new l l' n c e = record { wrote = record { stored = e; counted = refl }; is = refl; few = omega arith }
+pub makes_old : (most : ℕ) (c : Column) (x : CellNo) → Makes most (old x) c c x
+makes_old most c x = record { wrote = wrote_none c; is = refl; few = omega arith }
 
 -- A gate: its net where its first operand is low, where its second is, and where neither is.
-module _ (l : List ℕ) (n : ℕ) (g : gate.Gate) (x y : CellNo) where
-  pub first_folds : is_low x ≡ true → Makes 1 (gate_at g n x y) l l n n (first_low g y)
+module _ (c : Column) (g : gate.Gate) (x y : CellNo) where
+  pub first_folds : is_low x ≡ true → Makes 1 (gate_at g c.count x y) c c (first_low g y)
   unfolding gate_at pick
-  first_folds p = rw p (makes_old 1 l n (first_low g y))
+  first_folds p = rw p (makes_old 1 c (first_low g y))
 
-  pub second_folds : is_low x ≡ false → is_low y ≡ true → Makes 1 (gate_at g n x y) l l n n (second_low g x)
+  pub second_folds : is_low x ≡ false → is_low y ≡ true → Makes 1 (gate_at g c.count x y) c c (second_low g x)
   unfolding gate_at pick
-  second_folds p q = rw (p, q) (makes_old 1 l n (second_low g x))
+  second_folds p q = rw (p, q) (makes_old 1 c (second_low g x))
 
-  pub none_folds : {l' : List ℕ} {n' : ℕ} {r : CellNo} → is_low x ≡ false → is_low y ≡ false → Makes 1 (new n (Gate g x y)) l l' n n' r
-      → Makes 1 (gate_at g n x y) l l' n n' r
+  pub none_folds : {c' : Column} {r : CellNo} → is_low x ≡ false → is_low y ≡ false → Makes 1 (new c.count (Gate g x y)) c c' r
+      → Makes 1 (gate_at g c.count x y) c c' r
   unfolding gate_at pick
   none_folds p q m = rw (p, q) m
 

@@ -5,33 +5,33 @@ use mathlib.Core.List.{List, [], ◌∷◌, ◌++◌, append_assoc, append-nil}
 use native.Mathlib.Omega.{arith}
 use native.Mathlib.Numerals.{add-one}
 use native.Mathlib.Nat.{zero-add, suc-add, not-suc-le-zero, le_of_suc-le-suc}
-use native.Mathlib.Decide.{ℕ_discrete, dec_lt}
-use lib.ListN.{length, set, take, drop, get_or, replicate, length-append, length-set, length-drop, drop_of_length-le, get_or-eq_default}
-use lib.Seq.{drop-cons, take-suc-set, take_all, get_or-set_same, get_or-set_other, ext_get_or}
+use lib.ListN.{length, set, take, drop, get_or, replicate, length-set, drop_of_length-le}
+use lib.Seq.{drop-cons, take-suc-set, take_all}
 use Rattle.number.specs.declared.CellNo.{CellNo}
 use Rattle.limits.specs.Limits.{max_codes}
 use Rattle.cells.specs.declared.Cell.{Cell}
 use Rattle.cells.specs.Cells.{low}
+use Rattle.gates.specs.declared.Column.{Column}
 use Rattle.gates.specs.Folding.{New, or_at}
 use Rattle.gates.specs.Rows.{code, only, with_code0, trap_row, NewRow, or_row}
 use Rattle.gates.specs.Store.{WroteCells, Makes, MakesRow}
 use Rattle.gates.proofs.Laws.{wrote_none, wrote_more}
 
 -- The loop's invariant: with the nets before j made, what is made and what is left to make are the whole.
-pub record Rowing (l₀ : List ℕ) (n₀ : ℕ) (a b : List CellNo) (l : List ℕ) (nets : List CellNo) (n j : ℕ) : Type 0 where
+pub record Rowing (c₀ : Column) (a b : List CellNo) (c : Column) (nets : List CellNo) (j : ℕ) : Type 0 where
   pub made : List Cell
-  pub wrote : WroteCells l₀ l n₀ n made
-  pub cells : made ++ (or_row n (drop j a) (drop j b)).cells ≡ (or_row n₀ a b).cells
-  pub out : take j nets ++ (or_row n (drop j a) (drop j b)).nets ≡ (or_row n₀ a b).nets
+  pub wrote : WroteCells c₀ c made
+  pub cells : made ++ (or_row c.count (drop j a) (drop j b)).cells ≡ (or_row c₀.count a b).cells
+  pub out : take j nets ++ (or_row c.count (drop j a) (drop j b)).nets ≡ (or_row c₀.count a b).nets
   pub la : length a ≡ max_codes
   pub lb : length b ≡ max_codes
   pub ln : length nets ≡ max_codes
   pub upto : j ≤ max_codes
-  pub few : n ≤ n₀ + j
+  pub few : c.count ≤ c₀.count + j
 
-pub rowing_start : (l : List ℕ) (n : ℕ) (a b : List CellNo) → length a ≡ max_codes → length b ≡ max_codes → Rowing l n a b l b n 0
-rowing_start l n a b ha hb =
-    record { made = []; wrote = wrote_none l n; cells = refl; out = refl; la = ha; lb = hb; ln = hb; upto = omega arith; few = omega arith }
+pub rowing_start : (c : Column) (a b : List CellNo) → length a ≡ max_codes → length b ≡ max_codes → Rowing c a b c b 0
+rowing_start c a b ha hb =
+    record { made = []; wrote = wrote_none c; cells = refl; out = refl; la = ha; lb = hb; ln = hb; upto = omega arith; few = omega arith }
 
 -- what or'ing the codes of p and q gives, before the rest
 abbrev after : New → NewRow → NewRow
@@ -46,10 +46,12 @@ row_none : (n : ℕ) → or_row n [] [] ≡ record { cells = []; nets = [] }
 unfolding or_row
 row_none n = refl
 
-module _ {l₀ : List ℕ} {n₀ : ℕ} {a b : List CellNo} {l : List ℕ} {nets : List CellNo} {n j : ℕ} where
-  pub rowing_step : {l' : List ℕ} {n' : ℕ} {r : CellNo} (d : CellNo) → Rowing l₀ n₀ a b l nets n j → j < max_codes
-      → Makes 1 (or_at n (get_or a j d) (get_or b j d)) l l' n n' r → Rowing l₀ n₀ a b l' (set nets j r) n' (j + 1)
-  rowing_step {l'} {n'} {r} d v h m =
+module _ {c₀ : Column} {a b : List CellNo} {c : Column} {nets : List CellNo} {j : ℕ} where
+  pub rowing_step : {c' : Column} {r : CellNo} (d : CellNo) → Rowing c₀ a b c nets j → j < max_codes
+      → Makes 1 (or_at c.count (get_or a j d) (get_or b j d)) c c' r → Rowing c₀ a b c' (set nets j r) (j + 1)
+  rowing_step {c'} {r} d v h m =
+      let n : ℕ = c.count in
+      let n' : ℕ = c'.count in
       let p : CellNo = get_or a j d in
       let q : CellNo = get_or b j d in
       let o : New = or_at n p q in
@@ -70,12 +72,12 @@ module _ {l₀ : List ℕ} {n₀ : ℕ} {a b : List CellNo} {l : List ℕ} {nets
         few = omega (arith, m.few, v.few);
       })
 
-  pub rowing_end : Rowing l₀ n₀ a b l nets n j → max_codes ≤ j → MakesRow max_codes (or_row n₀ a b) l₀ l n₀ n nets
+  pub rowing_end : Rowing c₀ a b c nets j → max_codes ≤ j → MakesRow max_codes (or_row c₀.count a b) c₀ c nets
   rowing_end v h =
-      let left : or_row n (drop j a) (drop j b) ≡ record { cells = []; nets = [] } =
-      rw (drop_of_length-le a {i = j} (omega (arith, v.la)), drop_of_length-le b {i = j} (omega (arith, v.lb)), row_none n) in
-      let cells : v.made ≡ (or_row n₀ a b).cells = rw (left, append-nil v.made) at v.cells in
-      let out : nets ≡ (or_row n₀ a b).nets = rw (left, append-nil (take j nets), take_all j nets (omega (arith, v.ln))) at v.out in
+      let left : or_row c.count (drop j a) (drop j b) ≡ record { cells = []; nets = [] } =
+      rw (drop_of_length-le a {i = j} (omega (arith, v.la)), drop_of_length-le b {i = j} (omega (arith, v.lb)), row_none c.count) in
+      let cells : v.made ≡ (or_row c₀.count a b).cells = rw (left, append-nil v.made) at v.cells in
+      let out : nets ≡ (or_row c₀.count a b).nets = rw (left, append-nil (take j nets), take_all j nets (omega (arith, v.ln))) at v.out in
       record { wrote = rw cells at v.wrote; is = out; few = omega (arith, v.few, v.upto) }
 
 -- the row with one net is low at every code, with one store
@@ -118,69 +120,3 @@ pub any : (l : List CellNo) (j : ℕ) (d : CellNo) → j < length l → get_or l
 any [] j d h = absurd (not-suc-le-zero h)
 any (y ∷ l) zero d h = refl
 any (y ∷ l) (suc j) d h = any l j d (le_of_suc-le-suc h)
-
--- A trap's row is filled from code 2 up: the codes below j are the trap's, and the others low.
-pub record Shifting (o : CellNo) (ks row : List CellNo) (j : ℕ) : Type 0 where
-  pub lk : length ks ≡ max_codes
-  pub lr : length row ≡ max_codes
-  pub made : (i : ℕ) → i < j → code row i ≡ code (trap_row o ks) i
-  pub left : (i : ℕ) → j ≤ i → code row i ≡ low
-  pub some : 2 ≤ j
-  pub upto : j < max_codes
-
-module _ (o : CellNo) (ks : List CellNo) where
-  shift_at : (j : ℕ) → 2 ≤ j → code (trap_row o ks) j ≡ code ks (j + 1)
-  shift_at zero h = absurd (omega arith)
-  shift_at (suc zero) h = absurd (omega arith)
-  shift_at (suc (suc j)) h = let e : suc (suc (suc j)) ≡ suc (suc j) + 1 = omega arith in trap_at o ks j ∙ ap (code ks) e
-
-  trap_long : length ks ≡ max_codes → length (trap_row o ks) ≡ max_codes
-  trap_long h = simp (length-append, length-drop) (omega arith)
-
-  pub shifting_start : (d : CellNo) → length ks ≡ max_codes → Shifting o ks (set (set (replicate max_codes low) 0 o) 1 (get_or ks 1 d)) 2
-  shifting_start d h = record { lk = h; lr = refl; made = made; left = left; some = omega arith; upto = omega arith }
-    where
-      made : (i : ℕ) → i < 2 → code (set (set (replicate max_codes low) 0 o) 1 (get_or ks 1 d)) i ≡ code (trap_row o ks) i
-      made zero l = refl
-      made (suc zero) l = any ks 1 d (omega arith)
-      made (suc (suc i)) l = absurd (omega arith)
-
-      lows : (n i : ℕ) → code (replicate n low) i ≡ low
-      lows zero i = refl
-      lows (suc n) zero = refl
-      lows (suc n) (suc i) = lows n i
-
-      left : (i : ℕ) → 2 ≤ i → code (set (set (replicate max_codes low) 0 o) 1 (get_or ks 1 d)) i ≡ low
-      left zero l = absurd (omega arith)
-      left (suc zero) l = absurd (omega arith)
-      left (suc (suc i)) l = lows (max_codes - 2) i
-
-module _ {o : CellNo} {ks row : List CellNo} {j : ℕ} (v : Shifting o ks row j) where
-  pub shifting_step : (d : CellNo) → j + 1 < max_codes → Shifting o ks (set row j (get_or ks (j + 1) d)) (j + 1)
-  shifting_step d h =
-      record {
-        lk = v.lk;
-        lr = length-set row j (get_or ks (j + 1) d) ∙ v.lr;
-        made = made;
-        left = λ i l. get_or-set_other row j i (get_or ks (j + 1) d) low (λ e. omega arith) ∙ v.left i (omega arith);
-        some = omega (arith, v.some);
-        upto = h;
-      }
-    where
-      made : (i : ℕ) → i < j + 1 → code (set row j (get_or ks (j + 1) d)) i ≡ code (trap_row o ks) i
-      made i l = go (ℕ_discrete i j)
-        where
-          go : Dec (i ≡ j) → code (set row j (get_or ks (j + 1) d)) i ≡ code (trap_row o ks) i
-          go (yes e) =
-              ap (code (set row j (get_or ks (j + 1) d))) e ∙ get_or-set_same row j (get_or ks (j + 1) d) low (omega (arith, v.lr, v.upto))
-              ∙ any ks (j + 1) d (omega (arith, v.lk)) ∙ sym (ap (code (trap_row o ks)) e ∙ shift_at o ks j v.some)
-          go (no n) = get_or-set_other row j i (get_or ks (j + 1) d) low n ∙ v.made i (omega arith)
-
-  pub shifting_end : max_codes ≤ j + 1 → row ≡ trap_row o ks
-  shifting_end h = ext_get_or low row (trap_row o ks) (v.lr ∙ sym (trap_long o ks v.lk)) (λ i l. go i l (dec_lt i j))
-    where
-      go : (i : ℕ) → i < length row → Dec (i < j) → code row i ≡ code (trap_row o ks) i
-      go i l (yes b) = v.made i b
-      go i l (no n) =
-          v.left i (omega arith)
-          ∙ sym (shift_at o ks i (omega (arith, v.some)) ∙ get_or-eq_default ks low {n = i + 1} (omega (arith, v.lk, v.lr)))

@@ -5,10 +5,10 @@ ghost use Rattle.std.specs.Prelude.{◌≡◌, ◌+◌, ◌<◌};
 ghost use Rattle.bits.specs.Bits.{has};
 ghost use Rattle.limits.specs.Limits.{max_codes};
 ghost use Rattle.cells.specs.Cells.{is_low};
-ghost use Rattle.gates.specs.Folding.{new, first_low, second_low, gate_at, or_at, and_at, butnot_at};
+ghost use Rattle.gates.specs.Folding.{new, first_low, second_low, gate_at, butnot_at};
 ghost use Rattle.gates.specs.Rows as Rows;
 ghost use Rattle.gates.specs.Rows.{with_code0, or_row, trap_row, pairs, only_if, level_at, last_at, parallel_row};
-ghost use Rattle.gates.specs.Store.{parallel_cells, Makes, MakesRow, MakesLevel, MakesHighest};
+ghost use Rattle.gates.specs.Store.{parallel_cells, Fills, Makes, MakesRow, MakesLevel, MakesHighest};
 
 use cells::{Cell, Gate};
 use limits::MAX_CODES;
@@ -19,26 +19,6 @@ fn is_low(x: CellNo) -> bool
     ensures { result ≡ is_low x }
 {
     x.number() == 0
-}
-
-// The next number, and the net that was made.
-#[derive(Clone, Copy)]
-pub struct Put {
-    pub count: u16,
-    pub cell: CellNo,
-}
-
-// A new cell. The count goes on past the column's end; the caller sees to it, here and below, that it fits its type.
-pub fn push(cells: &mut [u64], count: u16, c: Cell) -> Put
-    requires { count + 1 < 65536 }
-    ensures { Makes 1 (new count c) cells.old cells.new count result.count result.cell }
-{
-    let cell = CellNo::new(count);
-    cells::fill(cells, cell, c);
-    Put {
-        count: count + 1,
-        cell,
-    }
 }
 
 // "or with 0 is the other operand, and with 0 is 0, .. butnot 0 y is 0.": a gate whose first operand is low.
@@ -61,47 +41,6 @@ fn second_low(g: Gate, x: CellNo) -> CellNo
         Gate::And => cells::low(),
         Gate::Butnot => x,
     }
-}
-
-// Low folds in a gate, and makes no cell. Nothing else folds.
-fn folded(cells: &mut [u64], count: u16, g: Gate, x: CellNo, y: CellNo) -> Put
-    requires { count + 1 < 65536 }
-    ensures { Makes 1 (gate_at g count x y) cells.old cells.new count result.count result.cell }
-{
-    if is_low(x) {
-        return Put {
-            count,
-            cell: first_low(g, y),
-        };
-    }
-    if is_low(y) {
-        return Put {
-            count,
-            cell: second_low(g, x),
-        };
-    }
-    push(cells, count, Cell::Gate(g, x, y))
-}
-
-pub fn or(cells: &mut [u64], count: u16, x: CellNo, y: CellNo) -> Put
-    requires { count + 1 < 65536 }
-    ensures { Makes 1 (or_at count x y) cells.old cells.new count result.count result.cell }
-{
-    folded(cells, count, Gate::Or, x, y)
-}
-
-pub fn and(cells: &mut [u64], count: u16, x: CellNo, y: CellNo) -> Put
-    requires { count + 1 < 65536 }
-    ensures { Makes 1 (and_at count x y) cells.old cells.new count result.count result.cell }
-{
-    folded(cells, count, Gate::And, x, y)
-}
-
-pub fn butnot(cells: &mut [u64], count: u16, x: CellNo, y: CellNo) -> Put
-    requires { count + 1 < 65536 }
-    ensures { Makes 1 (butnot_at count x y) cells.old cells.new count result.count result.cell }
-{
-    folded(cells, count, Gate::Butnot, x, y)
 }
 
 // The row whose one net is g, at code k.
@@ -130,130 +69,129 @@ pub fn trap_row(o: CellNo, c: [CellNo; MAX_CODES]) -> [CellNo; MAX_CODES]
     let mut a = [cells::low(); MAX_CODES];
     a[0] = o;
     a[1] = c[1];
-    let mut j: usize = 2;
-    while j + 1 < MAX_CODES {
-        let above = c[j + 1];
-        a[j] = above;
-        j += 1;
-    }
+    a[2..MAX_CODES - 1].copy_from_slice(&c[3..MAX_CODES]);
     a
 }
 
-// The next number, and a row of nets.
-#[derive(Clone, Copy)]
-pub struct Nets {
-    pub count: u16,
-    pub nets: [CellNo; MAX_CODES],
-}
-
-// Two rows, or'ed upward.
-pub fn or_row(cells: &mut [u64], count: u16, a: [CellNo; MAX_CODES], b: [CellNo; MAX_CODES]) -> Nets
-    requires { count + max_codes < 65536 }
-    ensures { MakesRow max_codes (or_row count a b) cells.old cells.new count result.count result.nets }
-{
-    let mut nets = b;
-    let mut n = count;
-    let mut j: usize = 0;
-    while j < MAX_CODES {
-        let p = or(cells, n, a[j], b[j]);
-        let net = p.cell;
-        nets[j] = net;
-        n = p.count;
-        j += 1;
-    }
-    Nets { count: n, nets }
-}
-
-// A butnot, where `keep` says so, and else low.
-fn kept(cells: &mut [u64], count: u16, m: CellNo, x: CellNo, keep: bool) -> Put
-    requires { count + 1 < 65536 }
-    ensures { Makes 1 (only_if keep (butnot_at count m x)) cells.old cells.new count result.count result.cell }
-{
-    if keep {
-        return butnot(cells, count, m, x);
-    }
-    Put {
-        count,
-        cell: cells::low(),
-    }
-}
-
-// The next number, a code's net, and x after it.
-#[derive(Clone, Copy)]
+// A code's net, and x after it.
+#[derive(Clone, Copy, Debug, PartialEq, Eq)]
 struct Level {
-    count: u16,
     net: CellNo,
     above: CellNo,
 }
 
-// A code of a parallel above 0.
-fn one_code(cells: &mut [u64], count: u16, p: CellNo, q: CellNo, x: CellNo, keep: bool) -> Level
-    requires { count + 3 < 65536 }
-    ensures { MakesLevel 3 (level_at count keep p q x) cells.old cells.new count result.count result.net result.above }
-{
-    let m = or(cells, count, p, q);
-    let b = kept(cells, m.count, m.cell, x, keep);
-    let y = or(cells, b.count, x, m.cell);
-    let net = b.cell;
-    let above = y.cell;
-    Level {
-        count: y.count,
-        net,
-        above,
-    }
-}
-
-// Its code 0.
-fn code_zero(cells: &mut [u64], count: u16, p: CellNo, q: CellNo, x: CellNo, keep: bool) -> Put
-    requires { count + 2 < 65536 }
-    ensures { Makes 2 (last_at count keep p q x) cells.old cells.new count result.count result.cell }
-{
-    let m = or(cells, count, p, q);
-    kept(cells, m.count, m.cell, x, keep)
-}
-
-// The next number, a parallel's row of nets, and x after code 2.
-#[derive(Clone, Copy)]
+// A parallel's row of nets, and x after code 2.
+#[derive(Clone, Copy, Debug, PartialEq, Eq)]
 pub struct Highest {
-    pub count: u16,
     pub nets: [CellNo; MAX_CODES],
     pub kill: CellNo,
 }
 
-// The codes of a parallel, from the highest down; `keep` has those in K or R. Code 1 stands behind the loop, since the kill is x before it.
-pub fn parallel_row(
-    cells: &mut [u64],
-    count: u16,
-    a: [CellNo; MAX_CODES],
-    b: [CellNo; MAX_CODES],
-    keep: u64,
-) -> Highest
-    requires { count + parallel_cells < 65536 }
-    ensures { MakesHighest parallel_cells (parallel_row count (has keep) (pairs a b)) cells.old cells.new count result.count
-        result.nets result.kill }
-{
-    let mut nets = [cells::low(); MAX_CODES];
-    let mut n = count;
-    let mut x = cells::low();
-    let mut j: usize = MAX_CODES;
-    while 2 < j {
-        j -= 1;
-        let v = one_code(cells, n, a[j], b[j], x, bits::member(keep, j as u32));
-        let net = v.net;
-        nets[j] = net;
-        x = v.above;
-        n = v.count;
+// The cells as they are made: they go into a lent column, and their count goes on past the column's end, where nothing is stored.
+#[derive(Drop)]
+pub struct Column<'a> {
+    pub cells: &'a mut [u64],
+    pub count: u16,
+}
+
+impl<'a> Column<'a> {
+    // A new cell. The caller sees to it, here and below, that the count fits its type.
+    pub fn push(&mut self, c: Cell) -> CellNo
+        requires { self.old.count + 1 < 65536 }
+        ensures { Makes 1 (new self.old.count c) self.old self.new result }
+    {
+        let cell = CellNo::new(self.count);
+        cells::fill(self.cells, cell, c);
+        self.count += 1;
+        cell
     }
-    let v = one_code(cells, n, a[1], b[1], x, bits::member(keep, 1));
-    let net = v.net;
-    nets[1] = net;
-    let above = v.above;
-    let w = code_zero(cells, v.count, a[0], b[0], above, bits::member(keep, 0));
-    let last = w.cell;
-    nets[0] = last;
-    Highest {
-        count: w.count,
-        nets,
-        kill: x,
+
+    // The cell n, which was reserved, becomes c.
+    pub fn fill(&mut self, n: CellNo, c: Cell)
+        ensures { Fills n c self.old self.new }
+    {
+        cells::fill(self.cells, n, c);
+    }
+
+    // Low folds in a gate, and makes no cell. Nothing else folds.
+    pub fn gate(&mut self, g: Gate, x: CellNo, y: CellNo) -> CellNo
+        requires { self.old.count + 1 < 65536 }
+        ensures { Makes 1 (gate_at g self.old.count x y) self.old self.new result }
+    {
+        if is_low(x) {
+            return first_low(g, y);
+        }
+        if is_low(y) {
+            return second_low(g, x);
+        }
+        self.push(Cell::Gate(g, x, y))
+    }
+
+    // Two rows, or'ed upward.
+    pub fn or_row(&mut self, a: [CellNo; MAX_CODES], b: [CellNo; MAX_CODES]) -> [CellNo; MAX_CODES]
+        requires { self.old.count + max_codes < 65536 }
+        ensures { MakesRow max_codes (or_row self.old.count a b) self.old self.new result }
+    {
+        let mut nets = b;
+        for j in 0..MAX_CODES {
+            let net = self.gate(Gate::Or, a[j], b[j]);
+            nets[j] = net;
+        }
+        nets
+    }
+
+    // A butnot, where `keep` says so, and else low.
+    fn kept(&mut self, m: CellNo, x: CellNo, keep: bool) -> CellNo
+        requires { self.old.count + 1 < 65536 }
+        ensures { Makes 1 (only_if keep (butnot_at self.old.count m x)) self.old self.new result }
+    {
+        if keep {
+            return self.gate(Gate::Butnot, m, x);
+        }
+        cells::low()
+    }
+
+    // A code of a parallel above 0.
+    fn one_code(&mut self, p: CellNo, q: CellNo, x: CellNo, keep: bool) -> Level
+        requires { self.old.count + 3 < 65536 }
+        ensures { MakesLevel 3 (level_at self.old.count keep p q x) self.old self.new result.net result.above }
+    {
+        let m = self.gate(Gate::Or, p, q);
+        let net = self.kept(m, x, keep);
+        let above = self.gate(Gate::Or, x, m);
+        Level { net, above }
+    }
+
+    // Its code 0.
+    fn code_zero(&mut self, p: CellNo, q: CellNo, x: CellNo, keep: bool) -> CellNo
+        requires { self.old.count + 2 < 65536 }
+        ensures { Makes 2 (last_at self.old.count keep p q x) self.old self.new result }
+    {
+        let m = self.gate(Gate::Or, p, q);
+        self.kept(m, x, keep)
+    }
+
+    // The codes of a parallel, from the highest down; `keep` has those in K or R. Code 1 stands behind the loop, since the kill is x before it.
+    pub fn parallel_row(
+        &mut self,
+        a: [CellNo; MAX_CODES],
+        b: [CellNo; MAX_CODES],
+        keep: u64,
+    ) -> Highest
+        requires { self.old.count + parallel_cells < 65536 }
+        ensures { MakesHighest parallel_cells (parallel_row self.old.count (has keep) (pairs a b)) self.old self.new result.nets result.kill }
+    {
+        let mut nets = [cells::low(); MAX_CODES];
+        let mut x = cells::low();
+        for j in (2..MAX_CODES).rev() {
+            let v = self.one_code(a[j], b[j], x, bits::member(keep, j as u32));
+            nets[j] = v.net;
+            x = v.above;
+        }
+        let v = self.one_code(a[1], b[1], x, bits::member(keep, 1));
+        nets[1] = v.net;
+        let last = self.code_zero(a[0], b[0], v.above, bits::member(keep, 0));
+        nets[0] = last;
+        Highest { nets, kill: x }
     }
 }

@@ -21,8 +21,6 @@ use Rattle.tables.specs.Answering.{pins, settings, bit, setting, answers}
 use Rattle.tables.proofs.Settings.{setting_small, setting_bit, value_in, reached}
 use Rattle.cells.specs.declared.Cell.{Cell}
 use Rattle.cells.specs.declared.Cell.TheVariants.{Low, High, Input, Gate, Register}
-use Rattle.cells.specs.declared.Pins.{Pins}
-use Rattle.cells.specs.declared.Pins.TheVariants.{None, Two}
 use Rattle.cells.specs.Cells.{cell_at, signal_cell}
 use Rattle.cells.specs.Values.{before, value}
 use Rattle.cells.specs.Needs.{IsCell, pins_of, Among, Needs}
@@ -43,6 +41,7 @@ use Rattle.covers.proofs.Reading.{pins_long}
 use Rattle.covers.proofs.Cuts.{at_pin}
 use Rattle.covers.proofs.Tables.{no_source}
 use Rattle.giving.proofs.Giving.{same_answers}
+use Rattle.std.specs.Prelude.{Option, Some, None}
 
 -- no input and no state: a table whose way ends at pins hears neither
 abbrev silent : SignalNo → Bool
@@ -130,9 +129,9 @@ module _ {cells : List Cell} {order : List ℕ} (o : Ordered cells order) where
         by : (x : CellNo) → Needs cells c x → Dec (ByWay x y)
         by x n = either (same x y) (Dec.and (Bool-discrete (is_pin cut x) false) (below x n))
 
-        go : (p : Pins) → pins_of (cell_at cells c) ≡ p → Dec (Met cells cut c y)
+        go : (p : Option (CellNo × CellNo)) → pins_of (cell_at cells c) ≡ p → Dec (Met cells cut c y)
         go None e = no (λ met. needs_none e (top met).1)
-        go (Two a b) e =
+        go (Some (a, b)) e =
             map_dec (λ w. ⊎_elim (under (needs_first e)) (under (needs_second e)) w)
             (λ met. let w = top met in needs_only e (λ x. ByWay x y → ByWay a y ⊎ ByWay b y) inl inr w.0 w.1 w.2)
             (either (by a (needs_first e)) (by b (needs_second e)))

@@ -28,6 +28,7 @@ use Rattle.sheet.proofs.Walk.{is_leaf, is_one, is_two, holds_second}
 use Rattle.rules.specs.Rules.{Signals, Halts, start, resume}
 use Rattle.rules.specs.States.{State, halts_of, react}
 use Rattle.interpreter.specs.Tested.{asks_one, asks_two, asks, Covers, Tested}
+use Rattle.sheet.specs.declared.Row.{Row}
 
 -- E and F are alike where t asks
 abbrev pub Alike : Signals → Signals → Stmt → Type 0
@@ -121,7 +122,7 @@ covers_join {a} {b} {w} {X} {Y} l r joins = record { covers = covers }
         ∙ or_cases (X s) (Y s) (λ x. or_left (signals_in a s) (signals_in b s) (l.covers s x h))
         (λ y. or_right (signals_in a s) (signals_in b s) (r.covers s y h)) on
 
-module _ (rows : List ℕ) (n : StmtNo) where
+module _ (rows : List Row) (n : StmtNo) where
   pub tested_leaf : {l : Leaf} (w : ℕ) → (row_at rows n).head ≡ Zero l → Tested rows n w
   unfolding asks
   tested_leaf w head = record { tested = λ a t h. rw (is_leaf rows n a t h head) (covers_none w (λ s. refl)) }

@@ -24,8 +24,9 @@ use Rattle.interpreter.specs.Program.{MayRun, RanRows}
 use Rattle.interpreter.proofs.Interpreting.{moment_at}
 use Rattle.interpreter.proofs.Settling.{settling_rows}
 use Rattle.interpreter.proofs.Alone.{fits_again}
+use Rattle.sheet.specs.declared.Row.{Row}
 
-module _ (rows : List ℕ) (asked start : ℕ) (events emissions states : List ℕ) where
+module _ (rows : List Row) (asked start : ℕ) (events emissions states : List ℕ) where
   abbrev Pre : Type 0
   Pre = MayRun rows asked start events emissions states
 

@@ -27,8 +27,6 @@ use Rattle.run.specs.Many.{each, events_ok}
 use Rattle.verdicts.specs.declared.Answer.{Answer}
 use Rattle.verdicts.specs.declared.Course.{Course}
 use Rattle.verdicts.specs.declared.Reaction.{Reaction}
-use Rattle.verdicts.specs.declared.Stop.{Stop}
-use Rattle.verdicts.specs.declared.Stop.TheVariants.{Nothing, By}
 use Rattle.verdicts.specs.Answers.{passes, verdict, refusal, acceptance, with_state, stop_of}
 use Rattle.verdicts.specs.Runs.{Asked, Told, needed, has_room, Once}
 use Rattle.verdicts.proofs.Running.{AllPass, stop_by, stop_none, all_pass, room_is, ran_stopped, ran_on}
@@ -36,8 +34,11 @@ use Rattle.interpreter.specs.declared.Program.{Program}
 use Rattle.interpreter.specs.Tested.{asks, Covers, Tested}
 use Rattle.interpreter.specs.Program.{PreparedAs, Prepared, MayRun, RanRows, AcceptedRuns, ProgramRuns, ProgramReacts}
 use Rattle.interpreter.proofs.Interpreting.{accepted_proper}
+use Rattle.std.specs.Prelude.{Result, Ok, Err}
+use Rattle.sets.specs.declared.Both.{Both}
+use Rattle.sheet.specs.declared.Row.{Row}
 
-module _ {p : Program} {rows statics : List ℕ} {w : Sheet} (is : PreparedAs p rows statics w) where
+module _ {p : Program} {rows : List Row} {statics : List Both} {w : Sheet} (is : PreparedAs p rows statics w) where
   pub inputs_few : p.counts.inputs < max_signals
   inputs_few = rw is.counts (omega (arith, (accepted_proper is.accepts).header))
 
@@ -45,15 +46,15 @@ module _ {p : Program} {rows statics : List ℕ} {w : Sheet} (is : PreparedAs p 
   prepared_known = known_proper (accepted_proper is.accepts) is.holds is.kept
 
 -- what the code asked: the events by the program's inputs, the state by its columns, and the slices' lengths
-pub record Judged (p : Program) (rows : List ℕ) (ask : Asked) (n : ℕ) (own fit room : Bool) (r : Stop) : Type 0 where
+pub record Judged (p : Program) (rows : List Row) (ask : Asked) (n : ℕ) (own fit room : Bool) (r : Result (Unit {0}) Fault) : Type 0 where
   pub events_asked : own ≡ events_ok p.counts.inputs ask.events
   pub state_asked : Fitted rows ask.state fit
   pub length_asked : n ≡ needed ask
   pub room_asked : room ≡ (leb n (length ask.signals) && leb n (length ask.states))
   pub stop : r ≡ stop_of (verdict passes own fit room n)
 
-module _ {p : Program} {rows : List ℕ} {ask : Asked} {n : ℕ} {own fit room : Bool} {r : Stop} (q : Judged p rows ask n own fit room r) where
-  module _ {statics : List ℕ} {w : Sheet} (is : PreparedAs p rows statics w) where
+module _ {p : Program} {rows : List Row} {ask : Asked} {n : ℕ} {own fit room : Bool} {r : Result (Unit {0}) Fault} (q : Judged p rows ask n own fit room r) where
+  module _ {statics : List Both} {w : Sheet} (is : PreparedAs p rows statics w) where
     own_events : own ≡ events_ok w.inputs ask.events
     own_events = q.events_asked ∙ ap (λ (c : Counts). events_ok c.inputs ask.events) is.counts
 
@@ -65,19 +66,19 @@ module _ {p : Program} {rows : List ℕ} {ask : Asked} {n : ℕ} {own fit room :
         ≡ verdict passes own fit room n
     asked_verdict = rw (own_events, fitting, q.room_asked, q.length_asked)
 
-  pub program_stopped : {statics : List ℕ} {f : Fault} → r ≡ By f
+  pub program_stopped : {statics : List Both} {f : Fault} → r ≡ Err f
       → ProgramRuns p rows statics ask
       (record { course = with_state (refusal f) ask.state; signals = ask.signals; states = ask.states })
   program_stopped is_by = record { runs = λ w is. ran_stopped (asked_verdict is ∙ stop_by _ (sym is_by ∙ q.stop)) }
 
-  module _ (none : r ≡ Nothing) where
+  module _ (none : r ≡ Ok tt) where
     still : verdict passes own fit room n ≡ passes
     still = stop_none _ (sym none ∙ q.stop)
 
     passed : AllPass own fit room
     passed = all_pass own fit room n still
 
-    pub may_run : {statics : List ℕ} → Prepared p rows statics
+    pub may_run : {statics : List Both} → Prepared p rows statics
         → MayRun rows (whole p.asks) ask.state ask.events ask.signals ask.states
     may_run k =
         let is = k.is in
@@ -93,7 +94,7 @@ module _ {p : Program} {rows : List ℕ} {ask : Asked} {n : ℕ} {own fit room :
           room = room_is ask (rw q.length_asked at (sym q.room_asked ∙ passed.room_passes));
         }
 
-    pub program_ran : {statics : List ℕ} {last : ℕ} {signals' states' : List ℕ}
+    pub program_ran : {statics : List Both} {last : ℕ} {signals' states' : List ℕ}
         → RanRows rows ask.state ask.events ask.signals signals' ask.states states' last
         → ProgramRuns p rows statics ask
         (record { course = with_state (acceptance p.counts.statements p.cells) last; signals = signals'; states = states' })
@@ -103,12 +104,12 @@ module _ {p : Program} {rows : List ℕ} {ask : Asked} {n : ℕ} {own fit room :
         }
 
 -- a state that is handed back fits as it did
-pub fitted_back : {rows : List ℕ} {a : Answer} {b : Bits} {r : Course} {fit : Bool} → Proper b.words → r ≡ with_state a (whole b)
+pub fitted_back : {rows : List Row} {a : Answer} {b : Bits} {r : Course} {fit : Bool} → Proper b.words → r ≡ with_state a (whole b)
     → Fitted rows (whole b) fit → fit ≡ true → Fitted rows (whole r.state) true
 fitted_back p is f so = rw (is, ap whole (bits_whole p)) (rw so at f)
 
 -- what covers the sheet that the rows hold covers whatever they hold
-pub may_tested : {rows : List ℕ} {asked state : ℕ} {events emissions states : List ℕ} → MayRun rows asked state events emissions states
+pub may_tested : {rows : List Row} {asked state : ℕ} {events emissions states : List ℕ} → MayRun rows asked state events emissions states
     → Tested rows root asked
 may_tested {rows} {asked} p = record { tested = tested }
   where
@@ -116,7 +117,7 @@ may_tested {rows} {asked} p = record { tested = tested }
     tested a t h = rw (holds_one rows root a (halt_no 0) t p.read.root h p.holds) p.covers
 
 -- What is said of the reactions of the accepted sheet for which a program stands is so of the program's reaction: that the sheet's bytes are answered so, for one.
-pub reacts_as : {p : Program} {rows statics : List ℕ} {w : Sheet} {state event : ℕ} {r : Reaction} (many : Asked → Told → Type 0)
+pub reacts_as : {p : Program} {rows : List Row} {statics : List Both} {w : Sheet} {state event : ℕ} {r : Reaction} (many : Asked → Told → Type 0)
     → ((ask : Asked) (told : Told) → AcceptedRuns w ask told → many ask told) → PreparedAs p rows statics w
     → ProgramReacts p rows statics state event r → Once many state event r
 reacts_as {w = w} many so is did = let once = did.reacts w is in record { told = once.told; ran = so _ _ once.ran; is = once.is }

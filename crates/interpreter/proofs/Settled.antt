@@ -19,13 +19,15 @@ use Rattle.rules.specs.declared.Yield.{Yield}
 use Rattle.rules.specs.Rules.{Signals, Outcome}
 use Rattle.rules.specs.States.{tick, react}
 use Rattle.rules.specs.Words.{Reacted, root}
+use Rattle.rules.proofs.Walks.{holds_one}
 use Rattle.agreement.specs.Rounds.{renewed, rounds}
 use Rattle.interpreter.specs.Settle.{Settling, Agreed, AgreedAt}
 use Rattle.interpreter.specs.Tested.{Tested}
 use Rattle.interpreter.proofs.Asking.{alike_sets, same_react}
+use Rattle.sheet.specs.declared.Row.{Row}
 
 -- the set e is what so many rounds make, at most as many as it takes
-pub record Reached {rows : List ℕ} {state event : ℕ} (p : Settling rows state event) (e round : ℕ) : Type 0 where
+pub record Reached {rows : List Row} {state event : ℕ} (p : Settling rows state event) (e round : ℕ) : Type 0 where
   pub within : round ≤ p.limit
   pub is : (s : SignalNo) → signals_in e s ≡ rounds (signals_in event) (has state) p.run.stmt round s
 
@@ -41,11 +43,11 @@ module _ {event given : ℕ} (g : Given event given) where
   given_is : (s : SignalNo) → signals_in given s ≡ (only tick s || signals_in event s)
   given_is s = g.adds (signal_bit s) ∙ or_comm (signals_in event s) (eqb (signal_bit s) 0)
 
-  pub reached_first : {rows : List ℕ} {state : ℕ} (p : Settling rows state event) → Reached p given 0
+  pub reached_first : {rows : List Row} {state : ℕ} (p : Settling rows state event) → Reached p given 0
   unfolding rounds
   reached_first p = record { within = omega arith; is = given_is }
 
-  module _ {rows : List ℕ} {state e next : ℕ} {r : Yield} (reacts : Reacted rows e state r)
+  module _ {rows : List Row} {state e next : ℕ} {r : Yield} (reacts : Reacted rows e state r)
       (j : Joined given (whole r.emits) next) where
     -- one round: "and the emissions"
     renewed_is : (a : HaltNo) (t : Stmt) → Holds rows root a t → (s : SignalNo)
@@ -75,7 +77,7 @@ module _ {event given : ℕ} (g : Given event given) where
           ∙ ap (λ (E : Signals). renewed (signals_in event) (has state) p.run.stmt E s) (fun_ext here.is)
 
       -- E has changed, so the rounds do not repeat yet
-      pub before_limit : (next ≡ e → ⊥) → round < p.limit
+      before_limit : (next ≡ e → ⊥) → round < p.limit
       before_limit changed = go (dec_lt round p.limit)
         where
           go : Dec (round < p.limit) → round < p.limit
@@ -91,3 +93,25 @@ module _ {event given : ℕ} (g : Given event given) where
       reached_next changed =
           let more : round + 1 ≡ suc round = omega arith in
           record { within = omega (arith, before_limit changed); is = rw more next_is }
+
+-- After so many rounds as it can take E is made of itself.
+pub agrees_last : {rows : List Row} {state event e round : ℕ} {r : Yield} (p : Settling rows state event) → Reached p e round → p.limit ≤ round
+    → Reacted rows e state r → AgreedAt rows state event r
+unfolding rounds
+agrees_last {rows} {state} {event} {e} {round} {r} p here past reacts = record { agreed = agreed }
+  where
+    E : ℕ → Signals
+    E = rounds (signals_in event) (has state) p.run.stmt
+
+    last : round ≡ p.limit
+    last = omega (arith, here.within)
+
+    same : signals_in e ≡ E p.limit
+    same = fun_ext (λ s. rw last at (here.is s))
+
+    agreed : (a : HaltNo) (t : Stmt) → Holds rows root a t → Agreed t state event r
+    agreed a t h =
+        let own : p.run.stmt ≡ t = holds_one rows root p.run.first a p.run.stmt t p.run.holds h in
+        let made : (s : SignalNo) → signals_in e s ≡ renewed (signals_in event) (has state) p.run.stmt (signals_in e) s =
+        λ s. ap (λ (F : Signals). F s) same ∙ sym (p.repeats s) ∙ ap (λ (F : Signals). renewed (signals_in event) (has state) p.run.stmt F s) (sym same) in
+        record { present = signals_in e; agrees = rw own at made; means = reacts.means a t h }

@@ -19,13 +19,14 @@ use Rattle.agreement.specs.Demand.{others}
 use Rattle.agreement.proofs.Theorem.{settles}
 use Rattle.interpreter.specs.Settle.{Settling}
 use Rattle.interpreter.proofs.Interpreting.{accepted_proper}
+use Rattle.sheet.specs.declared.Row.{Row}
 
 -- the signals are an event of I inputs
 pub event_of : (I event : ℕ) → event_ok I event ≡ true → Event I (signals_in event)
 event_of I event ok = record { no_tick = event_no_tick I event ok; own = event_own I event ok }
 
 -- the rows hold an accepted sheet
-pub settling_rows : {s rows : List ℕ} {w : Sheet} {state event : ℕ} → Accepted s w → Holds rows root (halt_no 0) w.root
+pub settling_rows : {s : List ℕ} {rows : List Row} {w : Sheet} {state event : ℕ} → Accepted s w → Holds rows root (halt_no 0) w.root
     → fits (has state) w.root ≡ true → event_ok w.inputs event ≡ true → Settling rows state event
 unfolding run_proper
 settling_rows {w = w} {state} {event} accepts holds fit is_event =

@@ -22,9 +22,11 @@ use Rattle.verdicts.specs.Runs.{Asked, Told, needed, has_room, Runs, Once}
 use Rattle.interpreter.specs.declared.Program.{Program}
 use Rattle.interpreter.specs.Interpret.{Moment}
 use Rattle.interpreter.specs.Tested.{asks, Covers, Tested}
+use Rattle.sets.specs.declared.Both.{Both}
+use Rattle.sheet.specs.declared.Row.{Row}
 
 -- the program p, with the columns of its rows and of its static sets, stands for the sheet w, which was accepted
-pub record PreparedAs (p : Program) (rows statics : List ℕ) (w : Sheet) : Type 0 where
+pub record PreparedAs (p : Program) (rows : List Row) (statics : List Both) (w : Sheet) : Type 0 where
   pub bytes : List ℕ
   pub accepts : Accepted bytes w
   pub counts : p.counts ≡ counts_of w
@@ -33,18 +35,18 @@ pub record PreparedAs (p : Program) (rows statics : List ℕ) (w : Sheet) : Type
   pub kept : Kept statics root w.root
   pub covers : Covers (whole p.asks) (asks w.root)
 
-pub record Prepared (p : Program) (rows statics : List ℕ) : Type 0 where
+pub record Prepared (p : Program) (rows : List Row) (statics : List Both) : Type 0 where
   pub read : Sheet
   pub is : PreparedAs p rows statics read
 
 -- what is made ready of rows with these counts and so many cells
-pub record Prepares (rows : List ℕ) (c : Counts) (n : ℕ) (p : Program) : Type 0 where
+pub record Prepares (rows : List Row) (c : Counts) (n : ℕ) (p : Program) : Type 0 where
   pub counts : p.counts ≡ c
   pub count : p.cells ≡ n
   pub tested : Tested rows root (whole p.asks)
 
 -- the rows of an accepted sheet, what it asks for, a state that fits it, events of its own inputs, and slices with an entry for each
-pub record MayRun (rows : List ℕ) (asked state : ℕ) (events emissions states : List ℕ) : Type 0 where
+pub record MayRun (rows : List Row) (asked state : ℕ) (events emissions states : List ℕ) : Type 0 where
   pub bytes : List ℕ
   pub read : Sheet
   pub accepts : Accepted bytes read
@@ -55,7 +57,7 @@ pub record MayRun (rows : List ℕ) (asked state : ℕ) (events emissions states
   pub room : Room events emissions states
 
 -- a moment of the rules for each event, and the last state fits
-pub record RanRows (rows : List ℕ) (state : ℕ) (events emissions emissions' states states' : List ℕ) (last : ℕ) : Type 0 where
+pub record RanRows (rows : List Row) (state : ℕ) (events emissions emissions' states states' : List ℕ) (last : ℕ) : Type 0 where
   pub ran : (a : HaltNo) (t : Stmt) → Holds rows root a t → Ran (Moment t) state events emissions emissions' states states' last
   pub fit : Fitted rows last true
 
@@ -66,8 +68,8 @@ AcceptedRuns w ask told =
     (verdict passes (events_ok w.inputs ask.events) (fits (has ask.state) w.root) (has_room ask) (needed ask)) ask told
 
 -- those of the program, for the sheet that it stands for
-pub record ProgramRuns (p : Program) (rows statics : List ℕ) (ask : Asked) (told : Told) : Type 0 where
+pub record ProgramRuns (p : Program) (rows : List Row) (statics : List Both) (ask : Asked) (told : Told) : Type 0 where
   pub runs : (w : Sheet) → PreparedAs p rows statics w → AcceptedRuns w ask told
 
-pub record ProgramReacts (p : Program) (rows statics : List ℕ) (state event : ℕ) (r : Reaction) : Type 0 where
+pub record ProgramReacts (p : Program) (rows : List Row) (statics : List Both) (state event : ℕ) (r : Reaction) : Type 0 where
   pub reacts : (w : Sheet) → PreparedAs p rows statics w → Once (AcceptedRuns w) state event r

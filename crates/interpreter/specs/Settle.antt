@@ -12,9 +12,10 @@ use Rattle.rules.specs.Rules.{Signals}
 use Rattle.rules.specs.States.{react, Agrees}
 use Rattle.rules.specs.Words.{Means, Runnable, root}
 use Rattle.agreement.specs.Rounds.{rounds}
+use Rattle.sheet.specs.declared.Row.{Row}
 
 -- after `limit` rounds from tick and the event's inputs on, E repeats
-pub record Settling (rows : List ℕ) (state event : ℕ) : Type 0 where
+pub record Settling (rows : List Row) (state event : ℕ) : Type 0 where
   pub run : Runnable rows root
   pub limit : ℕ
   pub few : limit < max_signals
@@ -27,5 +28,5 @@ pub record Agreed (t : Stmt) (state event : ℕ) (r : Yield) : Type 0 where
   pub agrees : Agrees (signals_in event) (has state) present t
   pub means : Means r (react present (has state) t)
 
-pub record AgreedAt (rows : List ℕ) (state event : ℕ) (r : Yield) : Type 0 where
+pub record AgreedAt (rows : List Row) (state event : ℕ) (r : Yield) : Type 0 where
   pub agreed : (a : HaltNo) (t : Stmt) → Holds rows root a t → Agreed t state event r

@@ -14,6 +14,7 @@ use Rattle.sheet.specs.Rows.{Holds}
 use Rattle.sheet.specs.Read.{only}
 use Rattle.sets.specs.Codes.{empty}
 use Rattle.rules.specs.Rules.{Signals}
+use Rattle.sheet.specs.declared.Row.{Row}
 
 -- "Watching: s in E ..", "Present: p if s is in E"
 abbrev pub asks_one : Unary → Signals
@@ -37,5 +38,5 @@ pub record Covers (w : ℕ) (X : Signals) : Type 0 where
   pub covers : (s : SignalNo) → X s ≡ true → signal_bit s < width → signals_in w s ≡ true
 
 -- the set has what the statement at row n asks for
-pub record Tested (rows : List ℕ) (n : StmtNo) (w : ℕ) : Type 0 where
+pub record Tested (rows : List Row) (n : StmtNo) (w : ℕ) : Type 0 where
   pub tested : (a : HaltNo) (t : Stmt) → Holds rows n a t → Covers w (asks t)

@@ -12,12 +12,13 @@ ghost use Rattle.interpreter.specs.Program.{Prepared, Prepares, MayRun, RanRows,
 use bits::Bits;
 use number::{SignalNo, StmtNo};
 use rules::Yield;
-use sheet::{Binary, Counts, Head, Unary};
-use verdicts::{Course, Reaction, Stop};
+use sets::Both;
+use sheet::{Binary, Counts, Head, Row, Unary};
+use verdicts::{Course, Reaction};
 
 // A sheet that was compiled, made ready once for all events: its counts, how many cells it has, and the signals that it asks for. Its rows and its static sets
 // stand beside it, in the columns that it was compiled into.
-#[derive(Clone, Copy)]
+#[derive(Clone, Copy, Debug, PartialEq, Eq)]
 pub struct Program {
     pub counts: Counts,
     pub cells: u16,
@@ -39,10 +40,8 @@ fn asked_by_one(u: Unary) -> Bits
     ensures { Covers (whole result) (asks_one u) }
 {
     match u {
-        Unary::Loop => Bits::empty(),
         Unary::Watching(s) => asked(s),
-        Unary::Trap => Bits::empty(),
-        Unary::Signal(_) => Bits::empty(),
+        Unary::Loop | Unary::Trap | Unary::Signal(_) => Bits::empty(),
     }
 }
 
@@ -50,20 +49,17 @@ fn asked_by_two(b: Binary) -> Bits
     ensures { Covers (whole result) (asks_two b) }
 {
     match b {
-        Binary::Sequence => Bits::empty(),
         Binary::Present(s) => asked(s),
-        Binary::Parallel => Bits::empty(),
+        Binary::Sequence | Binary::Parallel => Bits::empty(),
     }
 }
 
 // The signals that statement n asks for.
-fn tested(rows: &[u64], n: StmtNo) -> Bits
+fn tested(rows: &[Row], n: StmtNo) -> Bits
     requires { Runnable rows.now n }
     ensures { Tested rows.now n (whole result) }
 {
-    let row = sheet::row_at(rows, n);
-    let head = row.head;
-    match head {
+    match sheet::row_at(rows, n).head {
         Head::Zero(_) => Bits::empty(),
         Head::One(u) => {
             let p = tested(rows, sheet::first_part(n));
@@ -78,7 +74,7 @@ fn tested(rows: &[u64], n: StmtNo) -> Bits
 }
 
 // What was compiled into the rows, made ready.
-pub fn prepare(rows: &[u64], counts: Counts, cells: u16) -> Program
+pub fn prepare(rows: &[Row], counts: Counts, cells: u16) -> Program
     requires { Runnable rows.now root }
     ensures { Prepares rows.now counts cells result }
 {
@@ -90,30 +86,29 @@ pub fn prepare(rows: &[u64], counts: Counts, cells: u16) -> Program
 }
 
 // The yield of the root under the one E that agrees with the rules. `asks` has the signals that the sheet asks for: where a round changes none of them, another
-// would do the same. Emissions of an earlier round are dropped: keeping them could stop at a set that does not agree.
-fn agreed(rows: &[u64], asks: Bits, state: Bits, event: Bits) -> Yield
+// would do the same. Emissions of an earlier round are dropped: keeping them could stop at a set that does not agree. Fewer rounds than there can be signals
+// change E, so after so many it agrees.
+fn agreed(rows: &[Row], asks: Bits, state: Bits, event: Bits) -> Yield
     requires { Settling rows.now (whole state) (whole event) × Tested rows.now root (whole asks) }
     ensures { AgreedAt rows.now (whole state) (whole event) result }
 {
     let given = event.add(bits::TICK);
     let mut e = given;
-    let mut round: u32 = 0;
-    loop {
+    for _round in 1..limits::MAX_SIGNALS {
         let r = rules::react(rows, e, state);
-        let emits = r.emits;
-        let renewed = given.join(emits);
+        let renewed = given.join(r.emits);
         if asks.same_at(renewed, e) {
             return r;
         }
         e = renewed;
-        round += 1;
     }
+    rules::react(rows, e, state)
 }
 
 // A moment for each event, each from the state after the one before. The emissions and the states go to the first places of the lent slices; the last state
-// comes back.
+// comes back. `run::Ready::clocks` is this loop with another step: one loop for both would take a trait and a struct of each step's columns, which is more to read.
 pub fn moments(
-    rows: &[u64],
+    rows: &[Row],
     asks: Bits,
     state: Bits,
     events: &[u64],
@@ -124,16 +119,12 @@ pub fn moments(
     ensures { RanRows rows.now (whole state) events.now
         emissions.old emissions.new states.old states.new (whole result) }
 {
-    let n = bits::count(events);
     let mut last = state;
-    let mut j: usize = 0;
-    while j < n {
+    for j in 0..bits::count(events) {
         let r = agreed(rows, asks, last, Bits::read(events, j));
-        let shown = r.emits;
-        shown.write(emissions, j);
+        r.emits.write(emissions, j);
         last = rules::next_state(r);
         last.write(states, j);
-        j += 1;
     }
     last
 }
@@ -141,8 +132,8 @@ pub fn moments(
 // The reactions of a program that was made ready, where `fit` says whether the state fits: EVENT, STATE or BUFFER, or a moment for each event.
 fn run_from(
     p: Program,
-    rows: &[u64],
-    statics: &[u64],
+    rows: &[Row],
+    statics: &[Both],
     state: Bits,
     fit: bool,
     events: &[u64],
@@ -155,16 +146,14 @@ fn run_from(
         (record { course = result; signals = emissions.new; states = states.new }) }
     ensures fitted { fit ≡ true → Fitted rows.now (whole result.state) true }
 {
-    let counts = p.counts;
-    let asks = p.asks;
     let needed = verdicts::needed(events);
-    let own = run::events_ok(counts.inputs as u32, events);
+    let own = run::events_ok(p.counts.inputs as u32, events);
     let room = verdicts::has_room(needed, emissions.len(), states.len());
     match verdicts::first_fault(own, fit, room, needed) {
-        Stop::By(f) => verdicts::with_state(verdicts::refusal(f), state),
-        Stop::Nothing => {
-            let last = moments(rows, asks, state, events, emissions, states);
-            verdicts::with_state(verdicts::acceptance(counts.statements, p.cells), last)
+        Err(f) => verdicts::with_state(verdicts::refusal(f), state),
+        Ok(()) => {
+            let last = moments(rows, p.asks, state, events, emissions, states);
+            verdicts::with_state(verdicts::acceptance(p.counts.statements, p.cells), last)
         }
     }
 }
@@ -172,8 +161,8 @@ fn run_from(
 // The reactions of a program that was made ready, from any state.
 pub fn react_many(
     p: Program,
-    rows: &[u64],
-    statics: &[u64],
+    rows: &[Row],
+    statics: &[Both],
     state: Bits,
     events: &[u64],
     emissions: &mut [u64],
@@ -189,24 +178,12 @@ pub fn react_many(
 }
 
 // The reaction of a program that was made ready to one event: a run over it. The state fits, and so does the next one, so that nothing has to ask it again.
-pub fn react(p: Program, rows: &[u64], statics: &[u64], state: Bits, event: Bits) -> Reaction
+pub fn react(p: Program, rows: &[Row], statics: &[Both], state: Bits, event: Bits) -> Reaction
     requires { Prepared p rows.now statics.now × Fitted rows.now (whole state) true }
     ensures program_reacts { ProgramReacts p rows.now statics.now (whole state) (whole event) result }
     ensures fitted { Fitted rows.now (whole result.state) true }
 {
-    let mut events = [0u64; bits::WORDS];
-    let mut emissions = [0u64; bits::WORDS];
-    let mut states = [0u64; bits::WORDS];
-    event.write(&mut events, 0);
-    let c = run_from(
-        p,
-        rows,
-        statics,
-        state,
-        true,
-        &events,
-        &mut emissions,
-        &mut states,
-    );
-    verdicts::reaction_of(c, Bits::read(&emissions, 0))
+    verdicts::run_once(event, |events, emissions, states| {
+        run_from(p, rows, statics, state, true, events, emissions, states)
+    })
 }

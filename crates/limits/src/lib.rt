@@ -49,10 +49,7 @@ pub fn signals_full(s: SignalNo) -> bool
 pub fn header_full(inputs: u32, outputs: u32) -> bool
     ensures { result ≡ many_signals inputs outputs }
 {
-    if MAX_SIGNALS <= inputs {
-        return true;
-    }
-    MAX_SIGNALS - inputs <= outputs
+    MAX_SIGNALS <= inputs || MAX_SIGNALS - inputs <= outputs
 }
 
 // Whether a trap inside d traps would be one too many.
@@ -87,8 +84,5 @@ pub fn tick_or_input(s: SignalNo, inputs: u16) -> bool
 pub fn no_level(k: u32, d: u16) -> bool
     ensures { result ≡ (ltb k 2 || ltb (1 + d) k) }
 {
-    if k < 2 {
-        return true;
-    }
-    1 + (d as u32) < k
+    k < 2 || 1 + (d as u32) < k
 }

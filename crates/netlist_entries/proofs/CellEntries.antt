@@ -1,14 +1,13 @@
--- The copy of the words, BUFFER at their count, and what is handed out of a file.
+-- BUFFER at the count of the words, or the words, and what is handed out of a file.
 use mathlib.Core.Path.{◌≡◌, refl, sym, ap, ◌∙◌}
 use mathlib.Core.Bool.{true, false}
-use mathlib.Core.List.{List, [], map}
+use mathlib.Core.List.{List, ◌++◌, map}
 use Prim.Native.Nat.{ℕ, ◌+◌, ◌≤◌, ◌<◌}
 use native.Mathlib.Omega.{arith}
 use native.Mathlib.Nat.{zero-add}
-use native.Mathlib.Numerals.{add-one}
 use lib.Dec.{leb}
-use lib.ListN.{length, get_or, set, take, drop, length-map, length-set, drop_of_length-le}
-use lib.Seq.{sets, drop-cons}
+use lib.ListN.{length, take, drop, length-map}
+use lib.Seq.{sets, sets-eq}
 use borrow.Author.Tests.{lt-leb, le-leb}
 use Rattle.number.specs.declared.Fault.{Fault}
 use Rattle.number.specs.declared.Refusal.TheVariants.{Buffer}
@@ -18,7 +17,6 @@ use Rattle.limits.specs.Limits.{max_cells, max_signals}
 use Rattle.cells.specs.Words.{word, cells_of}
 use Rattle.cells.specs.Netlist.{Netlist, netlist_of}
 use Rattle.run.proofs.Numbering.{laid_more}
-use Rattle.files.specs.declared.FileRead.TheVariants.{Read}
 use Rattle.files.specs.declared.Header.{Header}
 use Rattle.files.specs.Read.{FileOutcome, netlist, faulty, read_file}
 use Rattle.files.specs.Answer.{header_of, FileLaid}
@@ -32,26 +30,14 @@ use Rattle.netlist_entries.specs.Netlists.{net_verdict, net_accepted}
 use Rattle.netlist_entries.specs.Files.{write_verdict}
 use Rattle.netlist_entries.specs.Cells.{words_of, listing_of, Handed, NetListed}
 use Rattle.netlist_entries.proofs.NetEntries.{checks}
+use Rattle.std.specs.Prelude.{Ok}
 
--- The loop that copies: what is left to copy completes the slice.
-module _ (cells words₀ : List ℕ) where
-  pub record Copying (n : ℕ) (words : List ℕ) : Type 0 where
-    pub same : sets words n (drop n cells) ≡ sets words₀ 0 cells
-    pub long : length words ≡ length words₀
-
-  pub copy_begins : Copying 0 words₀
-  copy_begins = record { same = refl; long = refl }
-
-  module _ {n : ℕ} {words : List ℕ} (r : Copying n words) where
-    pub copy_more : n < length cells → Copying (n + 1) (set words n (get_or cells n 0))
-    copy_more h =
-        rw add-one record {
-          same = rw (drop-cons cells n 0 h) at r.same;
-          long = length-set words n (get_or cells n 0) ∙ r.long;
-        }
-
-    pub copy_ends : length cells ≤ n → words ≡ sets words₀ 0 cells
-    copy_ends h = let none : drop n cells ≡ [] = drop_of_length-le cells h in rw none at r.same
+-- a copy over the front of a slice
+pub copied_front : (words : List ℕ) {cells copy : List ℕ} → length cells ≤ length words → copy ≡ cells
+    → copy ++ drop (length cells) words ≡ sets words 0 cells
+copied_front words {cells} room same =
+    let front : sets words 0 cells ≡ cells ++ drop (length cells) words = rw (zero-add (length cells)) at (sets-eq cells words 0 (omega arith)) in
+    rw same (sym front)
 
 -- BUFFER, or the words: `cells` are the words of the cells that they mean
 module _ {I O : ℕ} {cells : List ℕ} (packed : map word (cells_of cells) ≡ cells) {accepted : Answer} {words : List ℕ} where
@@ -83,7 +69,7 @@ pub laid_front : (l xs : List ℕ) → length xs ≤ length l → take (length x
 laid_front l xs room = rw (zero-add (length xs)) at (laid_more l xs 0 (omega arith))
 
 -- a file that was read: its column has the words of its cells
-module _ (s : List ℕ) {h : Header} {column column' order : List ℕ} (d : DidCheckFile (read_file s) (Read h) column column' order)
+module _ (s : List ℕ) {h : Header} {column column' order : List ℕ} (d : DidCheckFile (read_file s) (Ok h) column column' order)
     (long : max_cells ≤ length column) where
   abbrev net : Netlist
   net = (file s d long).found_as.net

@@ -12,8 +12,6 @@ use Rattle.cells.specs.Netlist.{Netlist, netlist_of}
 use Rattle.cells.proofs.Words.{cells_length}
 use Rattle.cells.proofs.Fitting.{formed_closed}
 use Rattle.run.specs.React.{Clockable, Numberable, Numbers, Prepared}
-use Rattle.files.specs.declared.FileRead.{FileRead}
-use Rattle.files.specs.declared.FileRead.TheVariants.{Read, Refused}
 use Rattle.files.specs.declared.Header.{Header}
 use Rattle.files.specs.Read.{FileOutcome, netlist, faulty, read_file}
 use Rattle.files.specs.Answer.{header_of}
@@ -26,10 +24,11 @@ use Rattle.netlists.proofs.Running.{Accepts, accepts, same_net, sound, count, fi
 use Rattle.verdicts.specs.Answers.{answer_of, refusal, acceptance}
 use Rattle.netlist_entries.specs.Netlists.{net_verdict, net_accepted, NetChecked}
 use Rattle.netlist_entries.specs.Code.{Checked}
+use Rattle.std.specs.Prelude.{Result, Ok, Err}
 
 -- a netlist's own fault
 module _ {found : FileOutcome} {f : Fault} where
-  pub net_refused : {r : FileRead} {order : List ℕ} → DidCheck found r order → r ≡ Refused f → NetChecks found (faulty f)
+  pub net_refused : {r : Result Header Fault} {order : List ℕ} → DidCheck found r order → r ≡ Err f → NetChecks found (faulty f)
   net_refused d e = subst (NetChecks found) (answered_fault d.outcome (sym d.answer ∙ e)) d.checks
 
   pub checked_refused : NetChecks found (faulty f) → NetChecked found (refusal f)
@@ -54,7 +53,7 @@ unfolding net_accepted
 words_answer I O words = ap (acceptance 0) (sym (length-map words cell_in))
 
 -- of cells as words that were checked: the netlist that they mean was accepted, with its I, O and count
-module _ (I O : ℕ) (words : List ℕ) {h : Header} {order : List ℕ} (d : DidCheck (judge_cells I O words) (Read h) order) where
+module _ (I O : ℕ) (words : List ℕ) {h : Header} {order : List ℕ} (d : DidCheck (judge_cells I O words) (Ok h) order) where
   right : CellsRight I O words (accepts d).found_as.net
   right = cells_right I O words (accepts d).found_as.is
 
@@ -113,12 +112,12 @@ module _ {I O n : ℕ} {words order : List ℕ} {values : List Bool} (k : Checke
   clockable m = record { prepared = prepared; numbered = m.numbered; feeds = m.feeds }
 
 -- the columns of a file, and of words, that were checked
-pub file_few : (s : List ℕ) {h : Header} {column column' order : List ℕ} → DidCheckFile (read_file s) (Read h) column column' order → max_cells ≤ length column
+pub file_few : (s : List ℕ) {h : Header} {column column' order : List ℕ} → DidCheckFile (read_file s) (Ok h) column column' order → max_cells ≤ length column
     → h.cells ≤ max_cells
 file_few s d long = omega (arith, count s d long, (sound s d long).few)
 
 pub file_checked : (s : List ℕ) {h : Header} {column column' order : List ℕ} {values : List Bool}
-    → DidCheckFile (read_file s) (Read h) column column' order → max_cells ≤ length column → max_cells ≤ length order
+    → DidCheckFile (read_file s) (Ok h) column column' order → max_cells ≤ length column → max_cells ≤ length order
     → length (take h.cells column') ≡ h.cells → length values ≡ h.cells → Checked h.inputs h.outputs h.cells (take h.cells column') order values
 file_checked s {h} {column' = column'} d long places whole each =
     record {
@@ -129,7 +128,7 @@ file_checked s {h} {column' = column'} d long places whole each =
       long = each ∙ sym whole;
     }
 
-pub words_are_checked : (I O : ℕ) (words : List ℕ) {h : Header} {order : List ℕ} {values : List Bool} (d : DidCheck (judge_cells I O words) (Read h) order)
+pub words_are_checked : (I O : ℕ) (words : List ℕ) {h : Header} {order : List ℕ} {values : List Bool} (d : DidCheck (judge_cells I O words) (Ok h) order)
     → max_cells ≤ length order → length values ≡ h.cells → Checked h.inputs h.outputs h.cells words order values
 words_are_checked I O words {h} d places each =
     let is = words_header I O words d in

@@ -16,15 +16,14 @@ use Rattle.files.specs.declared.Header.{Header}
 use Rattle.files.specs.Read.{FileOutcome, netlist, faulty}
 use Rattle.netlists.specs.Check.{NetChecks, accepted}
 use Rattle.netlists.proofs.Running.{Accepts}
-use Rattle.verdicts.specs.declared.Stop.{Stop}
-use Rattle.verdicts.specs.declared.Stop.TheVariants.{Nothing, By}
 use Rattle.verdicts.specs.Answers.{passes, verdict, refusal, acceptance, with_state, stop_of}
 use Rattle.verdicts.specs.Runs.{Asked, Told, needed, has_room}
 use Rattle.verdicts.proofs.Running.{stop_by, stop_none, all_pass, room_is, ran_stopped, ran_on}
 use Rattle.netlist_entries.specs.Netlists.{net_verdict, net_accepted, net_events, net_state, net_step, NetRuns, NetReactedMany}
+use Rattle.std.specs.Prelude.{Result, Ok, Err}
 
 -- what was asked of an accepted netlist: the events by its header, the state by its registers, and the slices' lengths
-pub record NetAsked (I : ℕ) (words : List ℕ) (ask : Asked) (k n : ℕ) (own fit room : Bool) (r : Stop) : Type 0 where
+pub record NetAsked (I : ℕ) (words : List ℕ) (ask : Asked) (k n : ℕ) (own fit room : Bool) (r : Result (Unit {0}) Fault) : Type 0 where
   pub events_asked : own ≡ events_ok I ask.events
   pub counted : k ≡ registers (cells_of words)
   pub state_asked : fit ≡ state_ok k ask.state
@@ -32,18 +31,18 @@ pub record NetAsked (I : ℕ) (words : List ℕ) (ask : Asked) (k n : ℕ) (own 
   pub room_asked : room ≡ (leb n (length ask.signals) && leb n (length ask.states))
   pub stop : r ≡ stop_of (verdict passes own fit room n)
 
-module _ (O : ℕ) (words : List ℕ) {I : ℕ} {ask : Asked} {k n : ℕ} {own fit room : Bool} {r : Stop} (q : NetAsked I words ask k n own fit room r) where
+module _ (O : ℕ) (words : List ℕ) {I : ℕ} {ask : Asked} {k n : ℕ} {own fit room : Bool} {r : Result (Unit {0}) Fault} (q : NetAsked I words ask k n own fit room r) where
   -- it is what the order of faults asks
   net_verdict_lem : let net : FileOutcome = netlist (netlist_of I O words) in
       verdict (net_verdict net) (net_events net ask.events) (net_state net ask.state) (has_room ask) (needed ask) ≡ verdict passes own fit room n
   unfolding net_verdict net_events net_state
   net_verdict_lem = rw (q.events_asked, q.state_asked, q.counted, q.room_asked, q.length_asked)
 
-  pub net_stopped : {f : Fault} → r ≡ By f
+  pub net_stopped : {f : Fault} → r ≡ Err f
       → NetRuns (netlist (netlist_of I O words)) ask (record { course = with_state (refusal f) ask.state; signals = ask.signals; states = ask.states })
   net_stopped is_by = ran_stopped (net_verdict_lem ∙ stop_by _ (sym is_by ∙ q.stop))
 
-  module _ (none : r ≡ Nothing) where
+  module _ (none : r ≡ Ok tt) where
     still : verdict passes own fit room n ≡ passes
     still = stop_none _ (sym none ∙ q.stop)
 

@@ -1,8 +1,8 @@
-// The entries that take a netlist, in a file or as I, O and a word for each cell. `written` and `handed` serve the compiled netlist of a sheet as well.
+// The entries that take a netlist, in a file or as I, O and a word for each cell. C calls one for each form; what follows the check they share. `written` and `handed`
+// serve the compiled netlist of a sheet as well.
 #![tactic(auto)]
 
 ghost use Rattle.std.specs.Prelude.{◌≡◌, ◌≤◌, map, length};
-ghost use Rattle.std.proofs.lemmas.List.Edits.{sets};
 ghost use Rattle.limits.specs.Limits.{max_cells};
 ghost use Rattle.bits.specs.Bits.{whole};
 ghost use Rattle.cells.specs.Words.{word, cells_of};
@@ -17,10 +17,9 @@ ghost use Rattle.netlist_entries.specs.Netlists.{NetChecked, NetRuns, NetReacted
 ghost use Rattle.netlist_entries.specs.Code.{Checked};
 
 use bits::Bits;
-use files::{FileRead, Header};
-use netlists::FileWritten;
-use number::{Fault, Refusal};
-use verdicts::{Answer, Course, Listing, Reaction, Stop};
+use files::Header;
+use number::Refusal;
+use verdicts::{Answer, Course, Listing, Reaction};
 
 // Checks a netlist file.
 pub fn check_file(s: &[u8]) -> Answer
@@ -29,8 +28,8 @@ pub fn check_file(s: &[u8]) -> Answer
     let mut cells = [0u64; limits::MAX_CELLS];
     let mut order = [0u16; limits::MAX_CELLS];
     match netlists::check_file(s, &mut cells, &mut order) {
-        FileRead::Refused(f) => verdicts::refusal(f),
-        FileRead::Read(h) => verdicts::acceptance(0, h.cells as u16),
+        Err(f) => verdicts::refusal(f),
+        Ok(h) => verdicts::acceptance(0, h.cells as u16),
     }
 }
 
@@ -40,8 +39,8 @@ pub fn check_cells(inputs: u32, outputs: u32, words: &[u64]) -> Answer
 {
     let mut order = [0u16; limits::MAX_CELLS];
     match netlists::check_cells(inputs, outputs, words, &mut order) {
-        FileRead::Refused(f) => verdicts::refusal(f),
-        FileRead::Read(_) => verdicts::acceptance(0, words.len() as u16),
+        Err(f) => verdicts::refusal(f),
+        Ok(_) => verdicts::acceptance(0, words.len() as u16),
     }
 }
 
@@ -58,20 +57,8 @@ pub fn written(
         buffer.old buffer.new }
 {
     match netlists::write_file(inputs, outputs, cells, buffer) {
-        FileWritten::Refused(f) => verdicts::refusal(f),
-        FileWritten::Length(_) => verdicts::acceptance(statements, cells.len() as u16),
-    }
-}
-
-// All words of `cells`, from the first place of `words` on.
-fn copy_words(cells: &[u64], words: &mut [u64])
-    requires { length cells.now ≤ length words.old }
-    ensures { words.new ≡ sets words.old 0 cells.now }
-{
-    let mut n: usize = 0;
-    while n < cells.len() {
-        words[n] = cells[n];
-        n += 1;
+        Err(f) => verdicts::refusal(f),
+        Ok(_) => verdicts::acceptance(statements, cells.len() as u16),
     }
 }
 
@@ -89,13 +76,9 @@ pub fn handed(
 {
     let count = cells.len();
     if words.len() < count {
-        let f = Fault {
-            refusal: Refusal::Buffer,
-            place: count,
-        };
-        return verdicts::with_signals(verdicts::refusal(f), 0, 0);
+        return verdicts::with_signals(verdicts::refusal(Refusal::Buffer.at(count)), 0, 0);
     }
-    copy_words(cells, words);
+    words[..count].copy_from_slice(cells);
     verdicts::with_signals(
         verdicts::acceptance(statements, count as u16),
         inputs,
@@ -110,8 +93,8 @@ pub fn read_file(s: &[u8], words: &mut [u64]) -> Listing
     let mut cells = [0u64; limits::MAX_CELLS];
     let mut order = [0u16; limits::MAX_CELLS];
     match netlists::check_file(s, &mut cells, &mut order) {
-        FileRead::Refused(f) => verdicts::with_signals(verdicts::refusal(f), 0, 0),
-        FileRead::Read(h) => {
+        Err(f) => verdicts::with_signals(verdicts::refusal(f), 0, 0),
+        Ok(h) => {
             let m = h.cells as usize;
             handed(0, h.inputs as u16, h.outputs as u16, &cells[..m], words)
         }
@@ -124,8 +107,8 @@ pub fn write_cells(inputs: u32, outputs: u32, words: &[u64], buffer: &mut [u8]) 
 {
     let mut order = [0u16; limits::MAX_CELLS];
     match netlists::check_cells(inputs, outputs, words, &mut order) {
-        FileRead::Refused(f) => verdicts::refusal(f),
-        FileRead::Read(_) => written(0, inputs, outputs, words, buffer),
+        Err(f) => verdicts::refusal(f),
+        Ok(_) => written(0, inputs, outputs, words, buffer),
     }
 }
 
@@ -153,21 +136,17 @@ fn clocks(
     let fit = run::state_ok(k as u32, state);
     let room = verdicts::has_room(needed, signals.len(), states.len());
     match verdicts::first_fault(own, fit, room, needed) {
-        Stop::By(f) => verdicts::with_state(verdicts::refusal(f), state),
-        Stop::Nothing => {
-            let last = run::clocks(
+        Err(f) => verdicts::with_state(verdicts::refusal(f), state),
+        Ok(()) => {
+            let ready = run::Ready {
                 cells,
                 order,
-                &places,
-                &operands[..k],
-                h.inputs,
-                h.outputs,
-                state,
-                events,
-                values,
-                signals,
-                states,
-            );
+                places: &places,
+                operands: &operands[..k],
+                inputs: h.inputs,
+                outputs: h.outputs,
+            };
+            let last = ready.clocks(state, events, values, signals, states);
             verdicts::with_state(verdicts::acceptance(0, h.cells as u16), last)
         }
     }
@@ -189,8 +168,8 @@ pub fn react_file_many(
     let mut order = [0u16; limits::MAX_CELLS];
     let mut values = [false; limits::MAX_CELLS];
     match netlists::check_file(s, &mut cells, &mut order) {
-        FileRead::Refused(f) => verdicts::with_state(verdicts::refusal(f), state),
-        FileRead::Read(h) => {
+        Err(f) => verdicts::with_state(verdicts::refusal(f), state),
+        Ok(h) => {
             let m = h.cells as usize;
             clocks(
                 h,
@@ -223,8 +202,8 @@ pub fn react_cells_many(
     let mut order = [0u16; limits::MAX_CELLS];
     let mut values = [false; limits::MAX_CELLS];
     match netlists::check_cells(inputs, outputs, words, &mut order) {
-        FileRead::Refused(f) => verdicts::with_state(verdicts::refusal(f), state),
-        FileRead::Read(h) => {
+        Err(f) => verdicts::with_state(verdicts::refusal(f), state),
+        Ok(h) => {
             let m = h.cells as usize;
             clocks(
                 h,
@@ -244,30 +223,16 @@ pub fn react_cells_many(
 pub fn react_file(s: &[u8], state: Bits, event: Bits) -> Reaction
     ensures { Once (NetReactedMany (read_file s.now)) (whole state) (whole event) result }
 {
-    let mut events = [0u64; bits::WORDS];
-    let mut outputs = [0u64; bits::WORDS];
-    let mut states = [0u64; bits::WORDS];
-    event.write(&mut events, 0);
-    let c = react_file_many(s, state, &events, &mut outputs, &mut states);
-    verdicts::reaction_of(c, Bits::read(&outputs, 0))
+    verdicts::run_once(event, |events, outputs, states| {
+        react_file_many(s, state, events, outputs, states)
+    })
 }
 
 // The reaction of a netlist handed in as I, O and words: a run over one event.
 pub fn react_cells(inputs: u32, outputs: u32, words: &[u64], state: Bits, event: Bits) -> Reaction
     ensures { Once (NetReactedMany (judge_cells inputs outputs words.now)) (whole state) (whole event) result }
 {
-    let mut events = [0u64; bits::WORDS];
-    let mut signals = [0u64; bits::WORDS];
-    let mut states = [0u64; bits::WORDS];
-    event.write(&mut events, 0);
-    let c = react_cells_many(
-        inputs,
-        outputs,
-        words,
-        state,
-        &events,
-        &mut signals,
-        &mut states,
-    );
-    verdicts::reaction_of(c, Bits::read(&signals, 0))
+    verdicts::run_once(event, |events, signals, states| {
+        react_cells_many(inputs, outputs, words, state, events, signals, states)
+    })
 }

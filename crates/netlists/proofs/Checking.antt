@@ -16,20 +16,18 @@ use Rattle.cells.specs.Words.{word, cells_of}
 use Rattle.cells.specs.Netlist.{Netlist, WellFormed}
 use Rattle.cells.proofs.Words.{stored_cells}
 use Rattle.cells.proofs.Fitting.{formed_closed, formed_small}
-use Rattle.order.specs.declared.Ordering.{Ordering}
-use Rattle.order.specs.declared.Ordering.TheVariants.{Found, Cycle}
 use Rattle.order.specs.Paths.{Lowest, Orderable, Ordered, Answers}
 use Rattle.order.proofs.Unique.{ordered_acyclic, lowest_unique}
 use Rattle.files.specs.declared.Header.{Header}
-use Rattle.files.specs.declared.FileRead.{FileRead}
-use Rattle.files.specs.declared.FileRead.TheVariants.{Read, Refused}
 use Rattle.files.specs.Read.{FileOutcome, netlist, faulty, read_file}
 use Rattle.netlists.specs.Words.{judge_cells}
 use Rattle.netlists.specs.Check.{NetChecks, refused, cyclic, accepted, ChecksFile, ChecksCells}
 use Rattle.files.specs.Answer.{header_of, file_answer, FileLaid, DidFile}
-use Rattle.netlists.specs.Checked.{after_order, IsOrdered, DidCheck, DidCheckFile}
+use Rattle.netlists.specs.Checked.{IsOrdered, DidCheck, DidCheckFile}
 use Rattle.files.proofs.Sound.{read_well_formed}
 use Rattle.netlists.proofs.Words.{CellsRight, cells_right}
+use Rattle.order.specs.declared.Cycle.{Cycle}
+use Rattle.std.specs.Prelude.{Result, Ok, Err}
 
 module _ {w : Netlist} (h : WellFormed w) where
   -- the words that were laid mean the cells
@@ -44,40 +42,48 @@ module _ {w : Netlist} (h : WellFormed w) where
   orderable places = record { closed = formed_closed h; few = h.few; long = omega (arith, h.few) }
 
 -- what was found before CYCLE, by what was answered
-pub answered_fault : (o : FileOutcome) {f : Fault} → file_answer o ≡ Refused f → o ≡ faulty f
+pub answered_fault : (o : FileOutcome) {f : Fault} → file_answer o ≡ Err f → o ≡ faulty f
 unfolding file_answer
 answered_fault (faulty g) e = cc
-answered_fault (netlist w) e = let z : ◌≡◌ {A = ℕ} 0 1 = cc in absurd (omega arith)
+answered_fault (netlist w) e = cc
 
 pub record Answered (o : FileOutcome) (h : Header) : Type 0 where
   pub net : Netlist
   pub is : o ≡ netlist net
   pub header : h ≡ header_of net
 
-pub answered_netlist : (o : FileOutcome) {h : Header} → file_answer o ≡ Read h → Answered o h
+pub answered_netlist : (o : FileOutcome) {h : Header} → file_answer o ≡ Ok h → Answered o h
 unfolding file_answer
-answered_netlist (faulty f) e = let z : ◌≡◌ {A = ℕ} 0 1 = cc in absurd (omega arith)
+answered_netlist (faulty f) e = cc
 answered_netlist (netlist w) e = record { net = w; is = refl; header = cc }
 
 -- its fault comes first
-pub check_stop : {found : FileOutcome} {f : Fault} {order : List ℕ} → file_answer found ≡ Refused f → DidCheck found (Refused f) order
+pub check_stop : {found : FileOutcome} {f : Fault} {order : List ℕ} → file_answer found ≡ Err f → DidCheck found (Err f) order
 unfolding file_answer IsOrdered
 check_stop {found} {f} e =
     record { outcome = faulty f; checks = refused (answered_fault found e); answer = refl; ordered = tt }
 
 -- then CYCLE
-pub check_order : {found : FileOutcome} {h : Header} {order : List ℕ} (a : Answered found h) (r : Ordering)
-    → Answers a.net.cells order r
-    → DidCheck found (after_order h r) order
-unfolding file_answer after_order IsOrdered
-check_order {order = order} a Found o =
+pub check_cyclic : {found : FileOutcome} {h : Header} {order : List ℕ} {k : Cycle} (a : Answered found h) → Answers a.net.cells order (Err k)
+    → DidCheck found (Err (fault CycleFault (of_cell k.lowest))) order
+unfolding file_answer IsOrdered
+check_cyclic {k = k} a o =
+    record {
+      outcome = faulty (fault CycleFault (of_cell k.lowest));
+      checks = cyclic a.is (o.cycle k refl);
+      answer = refl;
+      ordered = tt;
+    }
+
+pub check_ordered : {found : FileOutcome} {h : Header} {order : List ℕ} (a : Answered found h) → Answers a.net.cells order (Ok (tt {0}))
+    → DidCheck found (Ok h) order
+unfolding file_answer IsOrdered
+check_ordered {order = order} a o =
     let ordered : Ordered a.net.cells order = o.found refl in
-    record { outcome = netlist a.net; checks = accepted order a.is ordered; answer = ap Read a.header; ordered = ordered }
-check_order a (Cycle x) o =
-    record { outcome = faulty (fault CycleFault (of_cell x)); checks = cyclic a.is (o.cycle x refl); answer = refl; ordered = tt }
+    record { outcome = netlist a.net; checks = accepted order a.is ordered; answer = ap Ok a.header; ordered = ordered }
 
 -- The two checks: what was read or judged is searched for an order.
-module _ (s : List ℕ) {r : FileRead} {column column' : List ℕ} (d : DidFile (read_file s) r column column') {h : Header} (e : r ≡ Read h)
+module _ (s : List ℕ) {r : Result Header Fault} {column column' : List ℕ} (d : DidFile (read_file s) r column column') {h : Header} (e : r ≡ Ok h)
     (long : max_cells ≤ length column) where
   file : Answered (read_file s) h
   file = answered_netlist (read_file s) (sym d.answer ∙ e)
@@ -104,16 +110,20 @@ module _ (s : List ℕ) {r : FileRead} {column column' : List ℕ} (d : DidFile 
   pub file_orderable : {order : List ℕ} → max_cells ≤ length order → Orderable (cells_of (take h.cells column')) order
   file_orderable places = rw same (orderable sound places)
 
-  pub file_checked : {order : List ℕ} (a : Ordering) → Answers (cells_of (take h.cells column')) order a
-      → DidCheckFile (read_file s) (after_order h a) column column' order
-  file_checked a o = record { check = check_order file a (rw same at o); laid = d.laid }
+  pub file_cyclic : {order : List ℕ} {k : Cycle} → Answers (cells_of (take h.cells column')) order (Err k)
+      → DidCheckFile (read_file s) (Err (fault CycleFault (of_cell k.lowest))) column column' order
+  file_cyclic o = record { check = check_cyclic file (rw same at o); laid = d.laid }
 
-pub file_stopped : (s : List ℕ) {r : FileRead} {column column' order : List ℕ} → DidFile (read_file s) r column column' → {f : Fault}
-    → r ≡ Refused f
-    → DidCheckFile (read_file s) (Refused f) column column' order
+  pub file_in_order : {order : List ℕ} → Answers (cells_of (take h.cells column')) order (Ok (tt {0}))
+      → DidCheckFile (read_file s) (Ok h) column column' order
+  file_in_order o = record { check = check_ordered file (rw same at o); laid = d.laid }
+
+pub file_stopped : (s : List ℕ) {r : Result Header Fault} {column column' order : List ℕ} → DidFile (read_file s) r column column' → {f : Fault}
+    → r ≡ Err f
+    → DidCheckFile (read_file s) (Err f) column column' order
 file_stopped s d e = record { check = check_stop (sym d.answer ∙ e); laid = d.laid }
 
-module _ (I O : ℕ) (words : List ℕ) {r : FileRead} (q : r ≡ file_answer (judge_cells I O words)) {h : Header} (e : r ≡ Read h) where
+module _ (I O : ℕ) (words : List ℕ) {r : Result Header Fault} (q : r ≡ file_answer (judge_cells I O words)) {h : Header} (e : r ≡ Ok h) where
   judged : Answered (judge_cells I O words) h
   judged = answered_netlist (judge_cells I O words) (sym q ∙ e)
 
@@ -126,13 +136,16 @@ module _ (I O : ℕ) (words : List ℕ) {r : FileRead} (q : r ≡ file_answer (j
   pub cells_orderable : {order : List ℕ} → max_cells ≤ length order → Orderable (cells_of words) order
   cells_orderable places = rw (← same_words) (orderable right.sound places)
 
-  pub cells_checked : {order : List ℕ} (a : Ordering) → Answers (cells_of words) order a
-      → DidCheck (judge_cells I O words) (after_order h a) order
-  cells_checked a o = check_order judged a (rw same_words o)
+  pub cells_cyclic : {order : List ℕ} {k : Cycle} → Answers (cells_of words) order (Err k)
+      → DidCheck (judge_cells I O words) (Err (fault CycleFault (of_cell k.lowest))) order
+  cells_cyclic o = check_cyclic judged (rw same_words o)
+
+  pub cells_in_order : {order : List ℕ} → Answers (cells_of words) order (Ok (tt {0})) → DidCheck (judge_cells I O words) (Ok h) order
+  cells_in_order o = check_ordered judged (rw same_words o)
 
 -- There is one answer at most.
 fault_net : {A : Type 0} {f : Fault} {w : Netlist} → faulty f ≡ netlist w → A
-fault_net e = let z : ◌≡◌ {A = ℕ} 0 1 = cc in absurd (omega arith)
+fault_net e = cc
 
 own_net : {found : FileOutcome} {v w : Netlist} → found ≡ netlist v → found ≡ netlist w → v ≡ w
 own_net a b = let same : netlist _ ≡ netlist _ = sym a ∙ b in cc

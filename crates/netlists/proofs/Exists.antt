@@ -8,14 +8,14 @@ use Rattle.number.specs.Counts.{of_cell}
 use Rattle.number.specs.Refusals.{fault}
 use Rattle.cells.specs.Netlist.{Netlist, WellFormed}
 use Rattle.cells.proofs.Fitting.{formed_closed}
-use Rattle.order.specs.declared.Ordering.{Ordering}
-use Rattle.order.specs.declared.Ordering.TheVariants.{Found, Cycle}
 use Rattle.order.proofs.Exists as ordering
 use Rattle.files.specs.Read.{FileOutcome, netlist, faulty, read_file}
 use Rattle.files.proofs.Sound.{read_well_formed}
 use Rattle.netlists.specs.Words.{judge_cells}
 use Rattle.netlists.specs.Check.{NetChecks, refused, cyclic, accepted}
 use Rattle.netlists.proofs.Words.{cells_right}
+use Rattle.order.specs.declared.Cycle.{Cycle}
+use Rattle.std.specs.Prelude.{Result, Ok, Err}
 
 pub record Answered (found : FileOutcome) : Type 0 where
   pub outcome : FileOutcome
@@ -25,9 +25,10 @@ pub record Answered (found : FileOutcome) : Type 0 where
 answered : (found : FileOutcome) → ((w : Netlist) → found ≡ netlist w → WellFormed w) → Answered found
 answered found formed = go found refl
   where
-    by_order : (w : Netlist) → found ≡ netlist w → (a : ordering.Answered w.cells) (r : Ordering) → a.answer ≡ r → Answered found
-    by_order w e a Found is = record { outcome = netlist w; checks = accepted a.order e (a.is.found is) }
-    by_order w e a (Cycle x) is = record { outcome = faulty (fault CycleFault (of_cell x)); checks = cyclic e (a.is.cycle x is) }
+    by_order : (w : Netlist) → found ≡ netlist w → (a : ordering.Answered w.cells) (r : Result (Unit {0}) Cycle) → a.answer ≡ r → Answered found
+    by_order w e a (Ok tt) is = record { outcome = netlist w; checks = accepted a.order e (a.is.found is) }
+    by_order w e a (Err k) is =
+        record { outcome = faulty (fault CycleFault (of_cell k.lowest)); checks = cyclic e (a.is.cycle k is) }
 
     go : (o : FileOutcome) → found ≡ o → Answered found
     go (faulty f) e = record { outcome = faulty f; checks = refused e }

@@ -7,7 +7,7 @@ use native.Mathlib.Omega.{arith}
 use native.Mathlib.Numerals.{add-one}
 use native.Mathlib.Nat.{add-zero}
 use lib.ListN.{length, get_or, drop, length-append, drop_of_length-le}
-use lib.Seq.{sets, length-sets, drop-cons}
+use lib.Seq.{length-sets, drop-cons}
 use borrow.Author.Tests.{lt-ltb, le-ltb}
 use Rattle.number.specs.declared.CellNo.{CellNo}
 use Rattle.number.specs.declared.Refusal.TheVariants.{Buffer}
@@ -27,53 +27,37 @@ use Rattle.cells.proofs.Words.{cells_length, inside, at_end}
 use Rattle.cells.proofs.Fitting.{formed_within}
 use Rattle.files.specs.File.{truth_table, written_kind, pair_bytes, operand_bytes, cell_bytes, cells_bytes, file_bytes}
 use Rattle.files.proofs.Truths.{table_small}
-use Rattle.netlists.specs.declared.writer.FileWritten.TheVariants.{Length, Refused}
-use Rattle.netlists.specs.Write.{file_length, file_written, buffer_written, DidWrite, Writes, SmallPair, SmallCell, SmallCells}
+use Rattle.netlists.specs.Write.{file_length, file_written, buffer_written, DidWrite, HasRoom, Lays, SmallCell, SmallCells}
+use Rattle.netlists.specs.declared.writer.Writer.{Writer}
+use Rattle.std.specs.Prelude.{Ok, Err}
 
--- what `write_number` ensures
-abbrev pub Wrote : List ℕ → ℕ → ℕ → ℕ → List ℕ → Type 0
-Wrote s at v end s' = (end ≡ written_end s at v) × (s' ≡ written s at v)
-
-pub number_writes : {s : List ℕ} {at v end : ℕ} {s' : List ℕ} → v < 16384 → at + number_length v ≤ length s → Wrote s at v end s'
-    → Writes (number_bytes v) at end s s'
+-- a number that `write_number` wrote
+pub number_lays : {v : ℕ} {w w' : Writer} → v < 16384 → HasRoom (number_bytes v) w → w'.buffer.ghost_name ≡ w.buffer.ghost_name
+    → (w'.at ≡ written_end w.buffer.now w.at v) × (w'.buffer.now ≡ written w.buffer.now w.at v) → Lays (number_bytes v) w w'
 unfolding written written_end pick
-number_writes {s} {at} {v} small fits w =
-    let has : has_room s at v ≡ true = room s at v small fits in
-    record { past = rw has at w.0; laid = rw has at w.1 }
+number_lays {v} {w} small fits lent wrote =
+    let has : has_room w.buffer.now w.at v ≡ true = room w.buffer.now w.at v small fits.fits in
+    record { lent = lent; past = rw has at wrote.0; laid = rw has at wrote.1 }
 
-pub nothing_writes : (s : List ℕ) (at : ℕ) → Writes [] at at s s
-nothing_writes s at = record { past = sym (add-zero at); laid = refl }
+pub nothing_lays : (w : Writer) → Lays [] w w
+nothing_lays w = record { lent = refl; past = sym (add-zero w.at); laid = refl }
 
 -- more bytes behind some
-pub writes_more : {a b : List ℕ} {at mid end : ℕ} {s s₁ s₂ : List ℕ} → Writes a at mid s s₁ → Writes b mid end s₁ s₂
-    → Writes (a ++ b) at end s s₂
-writes_more {a} {b} {at} {mid} {end} {s} {s₁} {s₂} p q =
+pub lays_more : {a b : List ℕ} {w w₁ w₂ : Writer} → Lays a w w₁ → Lays b w₁ w₂ → Lays (a ++ b) w w₂
+lays_more {a} {b} {w} p q =
     record {
+      lent = q.lent ∙ p.lent;
       past = omega (arith, p.past, q.past, length-append a b);
-      laid = q.laid ∙ rw (p.laid, p.past) (sym (sets_append s at a b));
+      laid = q.laid ∙ rw (p.laid, p.past) (sym (sets_append w.buffer.now w.at a b));
     }
 
 -- the room that both have, for the first and for the second
-first_room : (s a b : List ℕ) (at : ℕ) → at + length (a ++ b) ≤ length s → at + length a ≤ length s
-first_room s a b at fits = omega (arith, length-append a b)
+pub first_room : (a b : List ℕ) {w : Writer} → HasRoom (a ++ b) w → HasRoom a w
+first_room a b h = record { fits = omega (arith, h.fits, length-append a b) }
 
-pub still_room : {a : List ℕ} (b : List ℕ) {at mid : ℕ} {s s₁ : List ℕ} → Writes a at mid s s₁ → at + length (a ++ b) ≤ length s
-    → mid + length b ≤ length s₁
-still_room {a} b {at} {mid} {s} {s₁} p fits = omega (arith, p.past, ap length p.laid, length-sets s at a, length-append a b)
-
--- a number in front of other bytes
-leading_writes : {v : ℕ} (b : List ℕ) {s : List ℕ} {at mid : ℕ} {s₁ : List ℕ} → v < 16384 → at + length (number_bytes v ++ b) ≤ length s
-    → Wrote s at v mid s₁ → Writes (number_bytes v) at mid s s₁
-leading_writes {v} b {s} {at} small fits w = number_writes small (first_room s (number_bytes v) b at fits) w
-
--- two operands
-pub pair_writes : {x y : CellNo} {s : List ℕ} {at mid end : ℕ} {s₁ s₂ : List ℕ} → SmallPair x y
-    → at + length (pair_bytes x y) ≤ length s → Wrote s at (of_cell x) mid s₁ → Wrote s₁ mid (of_cell y) end s₂
-    → Writes (pair_bytes x y) at end s s₂
-pair_writes {x} {y} {s} {at} small fits w v =
-    let b : List ℕ = number_bytes (of_cell y) in
-    let first = leading_writes b small.0 fits w in
-    writes_more first (number_writes small.1 (still_room b first fits) v)
+pub still_room : {a : List ℕ} (b : List ℕ) {w w₁ : Writer} → Lays a w w₁ → HasRoom (a ++ b) w → HasRoom b w₁
+still_room {a} b {w} p h =
+    record { fits = omega (arith, h.fits, p.past, ap length p.laid, length-sets w.buffer.now w.at a, length-append a b) }
 
 -- a kind is one byte, and a truth table is
 written_low : (c : Cell) → written_kind c ≤ 7
@@ -96,19 +80,17 @@ gate_length g x y =
     led (truth_table g) (pair_bytes x y) (omega (arith, table_small g)) ∙ ap (λ (k : ℕ). 1 + k) pair
 
 -- one byte written is a kind, or a truth table
-pub kind_writes : (c : Cell) {s : List ℕ} {at mid : ℕ} {s₁ : List ℕ} → Writes (written_kind c ∷ []) at mid s s₁
-    → Writes (number_bytes (written_kind c)) at mid s s₁
-kind_writes c w = rw (one_byte (written_kind c) (omega (arith, written_low c))) w
+pub kind_lays : (c : Cell) {w w₁ : Writer} → Lays (written_kind c ∷ []) w w₁ → Lays (number_bytes (written_kind c)) w w₁
+kind_lays c l = rw (one_byte (written_kind c) (omega (arith, written_low c))) l
 
-pub table_writes : (g : gate.Gate) {s : List ℕ} {at mid : ℕ} {s₁ : List ℕ} → Writes (truth_table g ∷ []) at mid s s₁
-    → Writes (number_bytes (truth_table g)) at mid s s₁
-table_writes g w = rw (one_byte (truth_table g) (omega (arith, table_small g))) w
+pub table_lays : (g : gate.Gate) {w w₁ : Writer} → Lays (truth_table g ∷ []) w w₁ → Lays (number_bytes (truth_table g)) w w₁
+table_lays g l = rw (one_byte (truth_table g) (omega (arith, table_small g))) l
 
-pub kind_room : (c : Cell) {at room : ℕ} → at + length (cell_bytes c) ≤ room → at < room
-kind_room c fits = omega (arith, cell_length c)
+pub kind_room : (c : Cell) {k : ℕ} {w : Writer} → HasRoom (cell_bytes c) w → HasRoom (k ∷ []) w
+kind_room c h = record { fits = omega (arith, h.fits, cell_length c) }
 
-pub table_room : (g : gate.Gate) (x y : CellNo) {at room : ℕ} → at + length (operand_bytes (Gate g x y)) ≤ room → at < room
-table_room g x y fits = omega (arith, gate_length g x y)
+pub table_room : (g : gate.Gate) (x y : CellNo) {k : ℕ} {w : Writer} → HasRoom (operand_bytes (Gate g x y)) w → HasRoom (k ∷ []) w
+table_room g x y h = record { fits = omega (arith, h.fits, gate_length g x y) }
 
 -- the cells from number n on
 pub cells_from : (cs : List Cell) (n : ℕ) → n < length cs
@@ -124,44 +106,40 @@ small_at : (cs : List Cell) (n : ℕ) → n < length cs → SmallCells (drop n c
 unfolding SmallCells
 small_at cs n h small = rw (drop-cons cs n Low h) at small
 
--- The loop that writes the cells: what is left to write completes the file.
-module _ (words buffer₀ : List ℕ) (start : ℕ) where
+-- The loop that writes the cells: what is left to write completes them.
+module _ (words : List ℕ) (w₀ : Writer) where
   abbrev left : ℕ → List ℕ
   left n = cells_bytes (drop n (cells_of words))
 
-  pub record Laying (at n : ℕ) (buffer : List ℕ) : Type 0 where
+  pub record Laying (n : ℕ) (w : Writer) : Type 0 where
     pub small : SmallCells (drop n (cells_of words))
-    pub room : at + length (left n) ≤ length buffer
-    pub long : length buffer ≡ length buffer₀
-    pub same : sets buffer at (left n) ≡ sets buffer₀ start (cells_bytes (cells_of words))
+    pub room : HasRoom (left n) w
+    pub rest : (w' : Writer) → Lays (left n) w w' → Lays (cells_bytes (cells_of words)) w₀ w'
 
-  pub begins : SmallCells (cells_of words) → start + length (cells_bytes (cells_of words)) ≤ length buffer₀ → Laying start 0 buffer₀
-  begins small fits = record { small = small; room = fits; long = refl; same = refl }
+  pub begins : SmallCells (cells_of words) → HasRoom (cells_bytes (cells_of words)) w₀ → Laying 0 w₀
+  begins small fits = record { small = small; room = fits; rest = λ w' l. l }
 
-  module _ {at n : ℕ} {buffer : List ℕ} (r : Laying at n buffer) where
-    pub writable : {c : Cell} → n < length words → c ≡ get_or (cells_of words) n Low
-        → SmallCell c × (at + length (cell_bytes c) ≤ length buffer)
+  module _ {n : ℕ} {w : Writer} (r : Laying n w) where
+    pub writable : {c : Cell} → n < length words → c ≡ get_or (cells_of words) n Low → SmallCell c × HasRoom (cell_bytes c) w
     writable {c} h e =
         let cs : List Cell = cells_of words in
         rw e (
           (small_at cs n (inside words h) r.small).0,
-          omega (arith, r.room, ap length (cells_from cs n (inside words h)), length-append (cell_bytes (get_or cs n Low)) (left (suc n))),
+          first_room (cell_bytes (get_or cs n Low)) (left (suc n)) (rw (cells_from cs n (inside words h)) at r.room),
         )
 
-    pub goes_on : {c : Cell} {end : ℕ} {buffer' : List ℕ} → n < length words → c ≡ get_or (cells_of words) n Low
-        → Writes (cell_bytes c) at end buffer buffer' → Laying end (n + 1) buffer'
-    goes_on {c} {end} {buffer'} h e w =
+    pub goes_on : {c : Cell} {w₁ : Writer} → n < length words → c ≡ get_or (cells_of words) n Low → Lays (cell_bytes c) w w₁ → Laying (n + 1) w₁
+    goes_on {c} h e l =
         let cs : List Cell = cells_of words in
         let here : left n ≡ cell_bytes c ++ left (suc n) = cells_from cs n (inside words h) ∙ rw e refl in
         rw add-one record {
           small = (small_at cs n (inside words h) r.small).1;
-          room = still_room (left (suc n)) w (rw here at r.room);
-          long = ap length w.laid ∙ length-sets buffer at (cell_bytes c) ∙ r.long;
-          same = rw (w.laid, w.past) (sym (sets_append buffer at (cell_bytes c) (left (suc n)))) ∙ rw here at r.same;
+          room = still_room (left (suc n)) l (rw here at r.room);
+          rest = λ w' behind. r.rest w' (rw here (lays_more l behind));
         }
 
-    pub ends : length words ≤ n → buffer ≡ sets buffer₀ start (cells_bytes (cells_of words))
-    ends h = rw (no_cells (cells_of words) n (at_end words h)) at r.same
+    pub ends : length words ≤ n → Lays (cells_bytes (cells_of words)) w₀ w
+    ends h = r.rest w (rw (no_cells (cells_of words) n (at_end words h)) (nothing_lays w))
 
 -- Lengths.
 operands_short : (c : Cell) → length (operand_bytes c) ≤ 5
@@ -222,8 +200,9 @@ module _ (I O : ℕ) (words : List ℕ) where
           whole = omega (arith, r.whole, ap length here, length-append (cell_bytes c) (cells_bytes (drop (suc n) cs)), cell_length c);
         }
 
-    pub measure_within : length words ≤ max_cells → sum ≤ 8192
-    measure_within few = omega (arith, r.whole, file_short few)
+    pub measure_within : {c : Cell} {k : ℕ} → length words ≤ max_cells → n < length words → c ≡ get_or (cells_of words) n Low
+        → k ≡ length (operand_bytes c) → sum + (1 + k) ≤ 8192
+    measure_within few h e q = omega (arith, (measure_more h e q).whole, file_short few)
 
     pub measure_ends : length words ≤ n → sum ≡ file_length (netlist_of I O words)
     measure_ends h = omega (arith, r.whole, ap length (no_cells (cells_of words) n (at_end words h)))
@@ -253,53 +232,51 @@ module _ (I O : ℕ) (words : List ℕ) (h : WellFormed (netlist_of I O words)) 
 
   -- a buffer too short is left as it is
   pub too_short : {k : ℕ} (s : List ℕ) → k ≡ file_length (netlist_of I O words) → length s < k
-      → DidWrite (netlist_of I O words) (Refused (fault Buffer k)) s s
+      → DidWrite (netlist_of I O words) (Err (fault Buffer k)) s s
   unfolding file_written buffer_written pick
   too_short {k} s e short =
       let test = lt-ltb (length s) (file_length (netlist_of I O words)) (omega arith) in
       rw e record { answer = rw test; left = rw test }
 
-  module _ (s : List ℕ) {s₁ s₂ s₃ : List ℕ} {k a b d : ℕ} (e : k ≡ file_length (netlist_of I O words)) (fits : k ≤ length s)
-      (i : Wrote s 0 I a s₁) (o : Wrote s₁ a O b s₂) (m : Wrote s₂ b (length words) d s₃) where
-    abbrev body : List ℕ
-    body = cells_bytes (cells_of words)
+  abbrev body : List ℕ
+  body = cells_bytes (cells_of words)
 
-    abbrev counted : List ℕ
-    counted = number_bytes (length words) ++ body
+  abbrev counted : List ℕ
+  counted = number_bytes (length words) ++ body
 
-    room₀ : 0 + length (number_bytes I ++ (number_bytes O ++ counted)) ≤ length s
+  module _ {k : ℕ} {w : Writer} (e : k ≡ file_length (netlist_of I O words)) (fits : k ≤ length w.buffer.now) (first : w.at ≡ 0) where
+    room₀ : HasRoom (number_bytes I ++ (number_bytes O ++ counted)) w
     room₀ =
-        omega (
-          arith,
-          length_parts I O words,
-          length-append (number_bytes I) (number_bytes O ++ counted),
-          length-append (number_bytes O) counted,
-          length-append (number_bytes (length words)) body,
-        )
+        let inputs = length-append (number_bytes I) (number_bytes O ++ counted) in
+        let outputs = length-append (number_bytes O) counted in
+        let count = length-append (number_bytes (length words)) body in
+        record { fits = omega (arith, length_parts I O words, inputs, outputs, count) }
 
-    first : Writes (number_bytes I) 0 a s s₁
-    first = number_writes (omega (arith, h.signals)) (first_room s (number_bytes I) (number_bytes O ++ counted) 0 room₀) i
+    pub inputs_room : (I < 16384) × HasRoom (number_bytes I) w
+    inputs_room = (omega (arith, h.signals), first_room (number_bytes I) (number_bytes O ++ counted) room₀)
 
-    room₁ : a + length (number_bytes O ++ counted) ≤ length s₁
-    room₁ = still_room (number_bytes O ++ counted) first room₀
+    module _ {w₁ : Writer} (i : Lays (number_bytes I) w w₁) where
+      room₁ : HasRoom (number_bytes O ++ counted) w₁
+      room₁ = still_room (number_bytes O ++ counted) i room₀
 
-    second : Writes (number_bytes O) a b s₁ s₂
-    second = number_writes (omega (arith, h.signals)) (first_room s₁ (number_bytes O) counted a room₁) o
+      pub outputs_room : (O < 16384) × HasRoom (number_bytes O) w₁
+      outputs_room = (omega (arith, h.signals), first_room (number_bytes O) counted room₁)
 
-    room₂ : b + length counted ≤ length s₂
-    room₂ = still_room counted second room₁
+      module _ {w₂ : Writer} (o : Lays (number_bytes O) w₁ w₂) where
+        room₂ : HasRoom counted w₂
+        room₂ = still_room counted o room₁
 
-    third : Writes (number_bytes (length words)) b d s₂ s₃
-    third = number_writes (omega (arith, few_words)) (first_room s₂ (number_bytes (length words)) body b room₂) m
+        pub count_room : (length words < 16384) × HasRoom (number_bytes (length words)) w₂
+        count_room = (omega (arith, few_words), first_room (number_bytes (length words)) body room₂)
 
-    pub cells_room : d + length (cells_bytes (cells_of words)) ≤ length s₃
-    cells_room = still_room body third room₂
+        module _ {w₃ : Writer} (m : Lays (number_bytes (length words)) w₂ w₃) where
+          pub cells_room : HasRoom body w₃
+          cells_room = still_room body m room₂
 
-    pub file_written_lem : {s₄ : List ℕ} → s₄ ≡ sets s₃ d (cells_bytes (cells_of words)) → DidWrite (netlist_of I O words) (Length k) s s₄
-    unfolding file_written buffer_written pick file_bytes
-    file_written_lem {s₄} q =
-        let all : Writes (number_bytes I ++ (number_bytes O ++ counted)) 0 (d + length body) s s₄ =
-        writes_more first (writes_more second (writes_more third (record { past = refl; laid = q }))) in
-        let test = le-ltb (length s) (file_length (netlist_of I O words)) (omega arith) in
-        let count : length (cells_of words) ≡ length words = cells_length words in
-        rw e record { answer = rw test; left = rw test (rw count all.laid) }
+          pub file_laid : {w₄ : Writer} → Lays body w₃ w₄ → DidWrite (netlist_of I O words) (Ok k) w.buffer.now w₄.buffer.now
+          unfolding file_written buffer_written pick file_bytes
+          file_laid l =
+              let all = lays_more i (lays_more o (lays_more m l)) in
+              let test = le-ltb (length w.buffer.now) (file_length (netlist_of I O words)) (omega arith) in
+              let count : length (cells_of words) ≡ length words = cells_length words in
+              rw e record { answer = rw test; left = rw test (rw (count, ← first) all.laid) }

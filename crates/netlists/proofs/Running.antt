@@ -9,7 +9,6 @@ use Rattle.cells.specs.Words.{cells_of}
 use Rattle.cells.specs.Netlist.{Netlist, netlist_of, WellFormed}
 use Rattle.order.specs.Paths.{Ordered}
 use Rattle.files.specs.declared.Header.{Header}
-use Rattle.files.specs.declared.FileRead.TheVariants.{Read}
 use Rattle.files.specs.File.{file_bytes, FileSpelled}
 use Rattle.files.specs.Read.{FileOutcome, netlist, read_file}
 use Rattle.files.specs.Answer.{header_of, FileLaid}
@@ -20,6 +19,7 @@ use Rattle.netlists.specs.Check.{NetChecks, accepted, ChecksFile}
 use Rattle.netlists.specs.Checked.{IsOrdered, DidCheck, DidCheckFile}
 use Rattle.netlists.proofs.Words.{CellsRight, cells_right}
 use Rattle.netlists.proofs.Checking.{laid_cells, Answered, answered_netlist}
+use Rattle.std.specs.Prelude.{Ok}
 
 -- what is accepted was read or judged so
 accepted_found : {found : FileOutcome} {w : Netlist} → NetChecks found (netlist w) → found ≡ netlist w
@@ -29,7 +29,7 @@ pub record Accepts (found : FileOutcome) (h : Header) (order : List ℕ) : Type 
   pub found_as : Answered found h
   pub ordered : Ordered found_as.net.cells order
 
-pub accepts : {found : FileOutcome} {h : Header} {order : List ℕ} → DidCheck found (Read h) order → Accepts found h order
+pub accepts : {found : FileOutcome} {h : Header} {order : List ℕ} → DidCheck found (Ok h) order → Accepts found h order
 unfolding IsOrdered
 accepts {found} {h} {order} d =
     let a : Answered d.outcome h = answered_netlist d.outcome (sym d.answer) in
@@ -42,7 +42,7 @@ pub same_net : {v w : Netlist} → v.inputs ≡ w.inputs → v.outputs ≡ w.out
 same_net i o cs = λ k. record { inputs = i k; outputs = o k; cells = cs k }
 
 -- of a file that was checked: the first places of the column are its cells
-module _ (s : List ℕ) {h : Header} {column column' order : List ℕ} (d : DidCheckFile (read_file s) (Read h) column column' order)
+module _ (s : List ℕ) {h : Header} {column column' order : List ℕ} (d : DidCheckFile (read_file s) (Ok h) column column' order)
     (long : max_cells ≤ length column) where
   pub file : Accepts (read_file s) h order
   file = accepts d.check
@@ -73,7 +73,7 @@ module _ (s : List ℕ) {h : Header} {column column' order : List ℕ} (d : DidC
   file_ordered = rw file_cells file.ordered
 
 -- of cells as words that were checked
-module _ (I O : ℕ) (words : List ℕ) {h : Header} {order : List ℕ} (d : DidCheck (judge_cells I O words) (Read h) order) where
+module _ (I O : ℕ) (words : List ℕ) {h : Header} {order : List ℕ} (d : DidCheck (judge_cells I O words) (Ok h) order) where
   cells : Accepts (judge_cells I O words) h order
   cells = accepts d
 

@@ -25,38 +25,36 @@ use Rattle.cells.specs.Netlist.{Netlist, netlist_of, operands_fit, WellFormed}
 use Rattle.cells.proofs.Words.{kind_in, cells_length}
 use Rattle.cells.proofs.Counting.{tally_le}
 use Rattle.cells.proofs.Fitting.{tally_room, Fit, fit_none, fit_more}
-use Rattle.files.specs.declared.Judgement.{Judgement}
-use Rattle.files.specs.declared.Judgement.TheVariants.{Right, Wrong}
-use Rattle.files.specs.declared.FileRead.TheVariants.{Read, Refused}
 use Rattle.files.specs.Judge.{judge_count, word_kinds, judge_kind}
 use Rattle.files.specs.Read.{FileOutcome, netlist, faulty}
 use Rattle.files.specs.Answer.{file_answer}
 use Rattle.netlists.specs.Words.{is_packed, judge_fields, judge_word, unless, judge_words, at_zero, judge_cells}
 use Rattle.files.proofs.Judging.{wrong_right, CountRight, count_right, kind_right}
 use Rattle.files.proofs.Standing.{by_test}
+use Rattle.std.specs.Prelude.{Result, Ok, Err}
 
 -- one word
 module _ (I m : ℕ) (x : CellNo) (k w : ℕ) where
-  pub kind_wrong : {r : Refusal} → judge_kind word_kinds I x k (w % 8) ≡ Wrong r → judge_word I m x k w ≡ Wrong r
+  pub kind_wrong : {r : Refusal} → judge_kind word_kinds I x k (w % 8) ≡ Err r → judge_word I m x k w ≡ Err r
   unfolding judge_word judge_fields
   kind_wrong e = rw e
 
-  module _ (kind : judge_kind word_kinds I x k (w % 8) ≡ Right) where
-    pub operands_wrong : operands_fit m x (cell_in w) ≡ false → judge_word I m x k w ≡ Wrong CellFault
+  module _ (kind : judge_kind word_kinds I x k (w % 8) ≡ Ok tt) where
+    pub operands_wrong : operands_fit m x (cell_in w) ≡ false → judge_word I m x k w ≡ Err CellFault
     unfolding judge_word judge_fields pick
     operands_wrong e = rw kind (rw e)
 
-    pub field_wrong : operands_fit m x (cell_in w) ≡ true → (word (cell_in w) ≡ w → ⊥) → judge_word I m x k w ≡ Wrong CellFault
+    pub field_wrong : operands_fit m x (cell_in w) ≡ true → (word (cell_in w) ≡ w → ⊥) → judge_word I m x k w ≡ Err CellFault
     unfolding judge_word judge_fields is_packed pick
     field_wrong e n = rw kind (rw (e, ne_eqb (word (cell_in w)) w n))
 
-    pub word_right : operands_fit m x (cell_in w) ≡ true → word (cell_in w) ≡ w → judge_word I m x k w ≡ Right
+    pub word_right : operands_fit m x (cell_in w) ≡ true → word (cell_in w) ≡ w → judge_word I m x k w ≡ Ok tt
     unfolding judge_word judge_fields is_packed pick
     word_right e p = rw kind (rw (e, eq-eqb (word (cell_in w)) w p))
 
 -- The loop over the words: those that are left, from cell n on, decide.
 module _ (I m : ℕ) (words : List ℕ) where
-  abbrev left : ℕ → ℕ → Judgement
+  abbrev left : ℕ → ℕ → Result (Unit {0}) Refusal
   left n registers = judge_words I m (cell_no n) registers (drop n words)
 
   pub record Judging (n registers : ℕ) : Type 0 where
@@ -72,11 +70,11 @@ module _ (I m : ℕ) (words : List ℕ) where
     unfolding judge_words
     one_word h = rw (drop-cons words n 0 h)
 
-    pub stops : {r : Refusal} → n < length words → judge_word I m (cell_no n) registers (get_or words n 0) ≡ Wrong r → Wrong r ≡ left 0 0
+    pub stops : {r : Refusal} → n < length words → judge_word I m (cell_no n) registers (get_or words n 0) ≡ Err r → Err r ≡ left 0 0
     unfolding unless
     stops h e = sym (one_word h ∙ rw e) ∙ j.same
 
-    pub goes_on : n < length words → judge_word I m (cell_no n) registers (get_or words n 0) ≡ Right
+    pub goes_on : n < length words → judge_word I m (cell_no n) registers (get_or words n 0) ≡ Ok tt
         → Judging (n + 1) (tally (cell_in (get_or words n 0)) registers)
     unfolding unless
     goes_on h e =
@@ -85,50 +83,50 @@ module _ (I m : ℕ) (words : List ℕ) where
           same = sym (one_word h ∙ rw e) ∙ j.same;
         }
 
-    pub ends : length words ≤ n → Right ≡ left 0 0
+    pub ends : length words ≤ n → Ok (tt {0}) ≡ left 0 0
     unfolding judge_words
     ends h = let none : drop n words ≡ [] = drop_of_length-le words h in rw none at j.same
 
 -- What words are with which nothing is wrong.
 
-record WordRight (m : ℕ) (x : CellNo) (w : ℕ) (kind : Judgement) : Type 0 where
-  right : kind ≡ Right
+record WordRight (m : ℕ) (x : CellNo) (w : ℕ) (kind : Result (Unit {0}) Refusal) : Type 0 where
+  right : kind ≡ Ok tt
   operands : operands_fit m x (cell_in w) ≡ true
   packed : word (cell_in w) ≡ w
 
-picked : (b : Bool) → pick b Right (Wrong CellFault) ≡ Right → b ≡ true
+picked : (b : Bool) → pick b (Ok (tt {0})) (Err CellFault) ≡ Ok tt → b ≡ true
 unfolding pick
 picked true e = refl
 picked false e = absurd (wrong_right e)
 
-fields_right : (m : ℕ) (x : CellNo) (w : ℕ) (j : Judgement) → judge_fields m x w j ≡ Right → WordRight m x w j
+fields_right : (m : ℕ) (x : CellNo) (w : ℕ) (j : Result (Unit {0}) Refusal) → judge_fields m x w j ≡ Ok tt → WordRight m x w j
 unfolding judge_fields is_packed
-fields_right m x w (Wrong r) e = absurd (wrong_right e)
-fields_right m x w Right e =
+fields_right m x w (Err r) e = absurd (wrong_right e)
+fields_right m x w (Ok tt) e =
     let fit : Bool = operands_fit m x (cell_in w) in
     let same : Bool = eqb (word (cell_in w)) w in
     let both : (fit && same) ≡ true = picked (fit && same) e in
     record { right = refl; operands = and_left fit same both; packed = eqb-true (word (cell_in w)) w (and_right fit same both) }
 
-right_word : (I m : ℕ) (x : CellNo) (k w : ℕ) → judge_word I m x k w ≡ Right → WordRight m x w (judge_kind word_kinds I x k (w % 8))
+right_word : (I m : ℕ) (x : CellNo) (k w : ℕ) → judge_word I m x k w ≡ Ok tt → WordRight m x w (judge_kind word_kinds I x k (w % 8))
 unfolding judge_word
 right_word I m x k w e = fields_right m x w (judge_kind word_kinds I x k (w % 8)) e
 
-record Both (j next : Judgement) : Type 0 where
-  first : j ≡ Right
-  rest : next ≡ Right
+record Both (j next : Result (Unit {0}) Refusal) : Type 0 where
+  first : j ≡ Ok tt
+  rest : next ≡ Ok tt
 
-unless_right : (j next : Judgement) → unless j next ≡ Right → Both j next
+unless_right : (j next : Result (Unit {0}) Refusal) → unless j next ≡ Ok tt → Both j next
 unfolding unless
-unless_right (Wrong r) next e = absurd (wrong_right e)
-unless_right Right next e = record { first = refl; rest = e }
+unless_right (Err r) next e = absurd (wrong_right e)
+unless_right (Ok tt) next e = record { first = refl; rest = e }
 
 -- they fit, and are the words of the cells that they mean
 pub record WordsFit (I m : ℕ) (x : CellNo) (k : ℕ) (words : List ℕ) : Type 0 where
   pub fit : Fit I m x k (cells_of words)
   pub packed : map word (cells_of words) ≡ words
 
-words_fit : (I m : ℕ) (x : CellNo) (k : ℕ) (words : List ℕ) → k ≤ max_registers → judge_words I m x k words ≡ Right → WordsFit I m x k words
+words_fit : (I m : ℕ) (x : CellNo) (k : ℕ) (words : List ℕ) → k ≤ max_registers → judge_words I m x k words ≡ Ok tt → WordsFit I m x k words
 unfolding judge_words
 words_fit I m x k [] few e = record { fit = fit_none I m x k few; packed = refl }
 words_fit I m x k (w ∷ ws) few e =
@@ -153,7 +151,7 @@ module _ (I O : ℕ) (words : List ℕ) where
   CellsFound (faulty f) = Unit
   CellsFound (netlist w) = CellsRight I O words w
 
-  all_right : many_signals I O ≡ false → judge_count I O (length words) ≡ Right → judge_words I (length words) (cell_no 0) 0 words ≡ Right
+  all_right : many_signals I O ≡ false → judge_count I O (length words) ≡ Ok tt → judge_words I (length words) (cell_no 0) 0 words ≡ Ok tt
       → CellsRight I O words (netlist_of I O words)
   all_right few count all =
       let m : length (cells_of words) ≡ length words = cells_length words in
@@ -178,42 +176,42 @@ module _ (I O : ℕ) (words : List ℕ) where
       by_test CellsFound (many_signals I O) _ (at_zero (netlist_of I O words) (unless count all)) (λ t. tt) (λ few.
       go (unless count all) refl few)
     where
-      count : Judgement
+      count : Result (Unit {0}) Refusal
       count = judge_count I O (length words)
 
-      all : Judgement
+      all : Result (Unit {0}) Refusal
       all = judge_words I (length words) (cell_no 0) 0 words
 
-      go : (j : Judgement) → unless count all ≡ j → many_signals I O ≡ false → CellsFound (at_zero (netlist_of I O words) j)
-      go (Wrong r) e few = tt
-      go Right e few = let parts = unless_right count all e in all_right few parts.first parts.rest
+      go : (j : Result (Unit {0}) Refusal) → unless count all ≡ j → many_signals I O ≡ false → CellsFound (at_zero (netlist_of I O words) j)
+      go (Err r) e few = tt
+      go (Ok tt) e few = let parts = unless_right count all e in all_right few parts.first parts.rest
 
   pub cells_right : {w : Netlist} → judge_cells I O words ≡ netlist w → CellsRight I O words w
   cells_right e = rw e at cells_found
 
 -- Words: too many signals, a count or a word that is wrong, or the netlist that they mean.
 module _ (I O : ℕ) (words : List ℕ) where
-  pub cells_signals : many_signals I O ≡ true → file_answer (judge_cells I O words) ≡ Refused (fault Count 0)
+  pub cells_signals : many_signals I O ≡ true → file_answer (judge_cells I O words) ≡ Err (fault Count 0)
   unfolding judge_cells file_answer pick
   cells_signals e = rw e
 
   module _ (few : many_signals I O ≡ false) where
-    judged : (j : Judgement) → unless (judge_count I O (length words)) (judge_words I (length words) (cell_no 0) 0 words) ≡ j
+    judged : (j : Result (Unit {0}) Refusal) → unless (judge_count I O (length words)) (judge_words I (length words) (cell_no 0) 0 words) ≡ j
         → judge_cells I O words ≡ at_zero (netlist_of I O words) j
     unfolding judge_cells pick
     judged j e = rw few (rw e)
 
-    pub cells_count : {r : Refusal} → judge_count I O (length words) ≡ Wrong r → file_answer (judge_cells I O words) ≡ Refused (fault r 0)
+    pub cells_count : {r : Refusal} → judge_count I O (length words) ≡ Err r → file_answer (judge_cells I O words) ≡ Err (fault r 0)
     unfolding file_answer at_zero unless
-    cells_count {r} e = rw (judged (Wrong r) (rw e))
+    cells_count {r} e = rw (judged (Err r) (rw e))
 
-    module _ (count : judge_count I O (length words) ≡ Right) where
-      pub cells_wrong : {r : Refusal} → judge_words I (length words) (cell_no 0) 0 words ≡ Wrong r
-          → file_answer (judge_cells I O words) ≡ Refused (fault r 0)
+    module _ (count : judge_count I O (length words) ≡ Ok tt) where
+      pub cells_wrong : {r : Refusal} → judge_words I (length words) (cell_no 0) 0 words ≡ Err r
+          → file_answer (judge_cells I O words) ≡ Err (fault r 0)
       unfolding file_answer at_zero unless
-      cells_wrong {r} e = rw (judged (Wrong r) (rw count e))
+      cells_wrong {r} e = rw (judged (Err r) (rw count e))
 
-      pub cells_netlist : judge_words I (length words) (cell_no 0) 0 words ≡ Right
-          → file_answer (judge_cells I O words) ≡ Read (record { inputs = I; outputs = O; cells = length words })
+      pub cells_netlist : judge_words I (length words) (cell_no 0) 0 words ≡ Ok tt
+          → file_answer (judge_cells I O words) ≡ Ok (record { inputs = I; outputs = O; cells = length words })
       unfolding file_answer at_zero unless
-      cells_netlist e = rw (judged Right (rw count e)) (rw (cells_length words))
+      cells_netlist e = rw (judged (Ok tt) (rw count e)) (rw (cells_length words))

@@ -1,7 +1,7 @@
 -- Not to be believed: what the code keeps to; the proofs check it.
 -- Writing a netlist file: "BUFFER too short for the file", at the "length needed"; "A lent buffer is written only on acceptance, and only as far as the file
 -- reaches."
-use Rattle.std.specs.Prelude.{◌≡◌, Bool, List, [], ◌∷◌, ℕ, ◌+◌, ◌<◌, ltb, length}
+use Rattle.std.specs.Prelude.{◌≡◌, Bool, List, [], ◌∷◌, ℕ, ◌+◌, ◌<◌, ◌≤◌, ltb, length, Result, Ok, Err}
 use Rattle.std.proofs.lemmas.List.Edits.{sets}
 use Rattle.number.specs.declared.CellNo.{CellNo}
 use Rattle.number.specs.Counts.{of_cell, of_signal}
@@ -11,9 +11,9 @@ use Rattle.number.specs.Refusals.{fault}
 use Rattle.cells.specs.declared.Cell.{Cell}
 use Rattle.cells.specs.declared.Cell.TheVariants.{Low, High, Input, Gate, Register}
 use Rattle.cells.specs.Netlist.{Netlist}
-use Rattle.netlists.specs.declared.writer.FileWritten.{FileWritten}
-use Rattle.netlists.specs.declared.writer.FileWritten.TheVariants.{Length, Refused}
 use Rattle.files.specs.File.{file_bytes}
+use Rattle.number.specs.declared.Fault.{Fault}
+use Rattle.netlists.specs.declared.writer.Writer.{Writer}
 
 abbrev pub file_length : Netlist → ℕ
 file_length w = length (file_bytes w)
@@ -22,21 +22,26 @@ abbrev pub too_short : List ℕ → Netlist → Bool
 too_short buffer w = ltb (length buffer) (file_length w)
 
 -- the answer
-unfoldable pub file_written : List ℕ → Netlist → FileWritten
-file_written buffer w = pick (too_short buffer w) (Refused (fault Buffer (file_length w))) (Length (file_length w))
+unfoldable pub file_written : List ℕ → Netlist → Result ℕ Fault
+file_written buffer w = pick (too_short buffer w) (Err (fault Buffer (file_length w))) (Ok (file_length w))
 
 -- what the buffer holds after it
 unfoldable pub buffer_written : List ℕ → Netlist → List ℕ
 buffer_written buffer w = pick (too_short buffer w) buffer (sets buffer 0 (file_bytes w))
 
-pub record DidWrite (w : Netlist) (r : FileWritten) (buffer buffer' : List ℕ) : Type 0 where
+pub record DidWrite (w : Netlist) (r : Result ℕ Fault) (buffer buffer' : List ℕ) : Type 0 where
   pub answer : r ≡ file_written buffer w
   pub left : buffer' ≡ buffer_written buffer w
 
--- For the functions behind `write_file`: the bytes are laid from `at` on, and `end` is past them.
-pub record Writes (bytes : List ℕ) (at end : ℕ) (buffer buffer' : List ℕ) : Type 0 where
-  pub past : end ≡ at + length bytes
-  pub laid : buffer' ≡ sets buffer at bytes
+-- For the methods behind `write_file`: from the writer's place on there is room for the bytes.
+pub record HasRoom (bytes : List ℕ) (w : Writer) : Type 0 where
+  pub fits : w.at + length bytes ≤ length w.buffer.now
+
+-- the bytes are laid from the writer's place on, in the buffer that it was lent, and its place is past them
+pub record Lays (bytes : List ℕ) (w w' : Writer) : Type 0 where
+  pub lent : w'.buffer.ghost_name ≡ w.buffer.ghost_name
+  pub past : w'.at ≡ w.at + length bytes
+  pub laid : w'.buffer.now ≡ sets w.buffer.now w.at bytes
 
 -- operands that a number of a file can hold
 abbrev pub SmallPair : CellNo → CellNo → Type 0

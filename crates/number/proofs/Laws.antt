@@ -13,8 +13,7 @@ use lib.Seq.{sets, sets-eq, length-sets, length-take-le, drop-cons, get_or-appen
 use borrow.Author.Tests.{ltb-true, ltb-false, leb-true, leb-false, eqb-false, lt-ltb, le-ltb, le-leb, lt-leb, ne_eqb}
 use Rattle.number.specs.declared.Cursor.{Cursor}
 use Rattle.number.specs.declared.Fault.{Fault}
-use Rattle.number.specs.declared.NumberRead.{NumberRead}
-use Rattle.number.specs.declared.NumberRead.TheVariants.{Value, Refused}
+use Rattle.std.specs.Prelude.{Result, Ok, Err}
 use Rattle.number.specs.declared.Refusal.TheVariants.{Short, Number}
 use Rattle.number.specs.Refusals.{fault}
 use Rattle.number.specs.Number.{pick, cursor, number_at, number_bytes, number_length, has_room, written, written_end, Bytes}
@@ -67,13 +66,13 @@ bytes_of_number v small k =
 -- Reading.
 
 -- a byte below 128 is read by itself
-read_one : (s : List ℕ) (at : ℕ) → at < length s → get_or s at 0 < 128 → number_at s at ≡ Value (get_or s at 0) (cursor (at + 1))
+read_one : (s : List ℕ) (at : ℕ) → at < length s → get_or s at 0 < 128 → number_at s at ≡ Ok ((get_or s at 0), (cursor (at + 1)))
 unfolding number_at pick
 read_one s at inside small = simp (lt-leb (length s) at inside, lt-ltb (get_or s at 0) 128 small)
 
 -- any other with the byte behind it, which is 1 to 127
 read_two : (s : List ℕ) (at : ℕ) → at + 1 < length s → 128 ≤ get_or s at 0 → 1 ≤ get_or s (at + 1) 0 → get_or s (at + 1) 0 ≤ 127
-    → number_at s at ≡ Value (get_or s (at + 1) 0 * 128 + get_or s at 0 % 128) (cursor (at + 2))
+    → number_at s at ≡ Ok ((get_or s (at + 1) 0 * 128 + get_or s at 0 % 128), (cursor (at + 2)))
 unfolding number_at pick
 read_two s at inside large some few =
     simp (
@@ -87,41 +86,41 @@ read_two s at inside large some few =
 
 -- the bytes of v read as v, wherever they stand
 pub read_bytes : (before after : List ℕ) (v : ℕ) → v < 16384
-    → number_at (before ++ (number_bytes v ++ after)) (length before) ≡ Value v (cursor (length before + number_length v))
+    → number_at (before ++ (number_bytes v ++ after)) (length before) ≡ Ok (v, (cursor (length before + number_length v)))
 read_bytes before after v small =
-    by_size (λ n. number_at (before ++ (number_bytes n ++ after)) (length before) ≡ Value n (cursor (length before + number_length n))) v
+    by_size (λ n. number_at (before ++ (number_bytes n ++ after)) (length before) ≡ Ok (n, (cursor (length before + number_length n)))) v
     (λ h. rw (one_byte v h) (one h))
     (λ h. rw (two_bytes v h) (two h))
   where
     at : ℕ
     at = length before
 
-    one : v < 128 → number_at (before ++ v ∷ after) at ≡ Value v (cursor (at + 1))
+    one : v < 128 → number_at (before ++ v ∷ after) at ≡ Ok (v, (cursor (at + 1)))
     one h =
         let s : List ℕ = before ++ v ∷ after in
         let byte : get_or s at 0 ≡ v = get_or-append_seam before v after 0 in
         let inside : at < length s = simp length-append (omega arith) in
-        read_one s at inside (rw byte h) ∙ ap (λ x. Value x (cursor (at + 1))) byte
+        read_one s at inside (rw byte h) ∙ ap (λ x. Ok (x, (cursor (at + 1)))) byte
 
-    two : 128 ≤ v → number_at (before ++ (v % 128 + 128) ∷ (v / 128 ∷ after)) at ≡ Value v (cursor (at + 2))
+    two : 128 ≤ v → number_at (before ++ (v % 128 + 128) ∷ (v / 128 ∷ after)) at ≡ Ok (v, (cursor (at + 2)))
     two h =
         let s : List ℕ = before ++ (v % 128 + 128) ∷ (v / 128 ∷ after) in
         let low : get_or s at 0 ≡ v % 128 + 128 = get_or-append_seam before (v % 128 + 128) (v / 128 ∷ after) 0 in
         let high : get_or s (at + 1) 0 ≡ v / 128 = get_or-append-add before ((v % 128 + 128) ∷ (v / 128 ∷ after)) 1 0 in
         let inside : at + 1 < length s = simp length-append (omega arith) in
         let whole : get_or s (at + 1) 0 * 128 + get_or s at 0 % 128 ≡ v = omega arith in
-        read_two s at inside (omega arith) (omega arith) (omega arith) ∙ ap (λ x. Value x (cursor (at + 2))) whole
+        read_two s at inside (omega arith) (omega arith) (omega arith) ∙ ap (λ x. Ok (x, (cursor (at + 2)))) whole
 
 -- what a reading answers, with the bytes that it answers so for
-data Found (s : List ℕ) (at : ℕ) : NumberRead → Type 0 where
-  one : at < length s → get_or s at 0 < 128 → Found s at (Value (get_or s at 0) (cursor (at + 1)))
+data Found (s : List ℕ) (at : ℕ) : Result (ℕ × Cursor) Fault → Type 0 where
+  one : at < length s → get_or s at 0 < 128 → Found s at (Ok ((get_or s at 0), (cursor (at + 1))))
   two : at + 1 < length s → 128 ≤ get_or s at 0 → 1 ≤ get_or s (at + 1) 0 → get_or s (at + 1) 0 ≤ 127
-      → Found s at (Value (get_or s (at + 1) 0 * 128 + get_or s at 0 % 128) (cursor (at + 1 + 1)))
-  short : Found s at (Refused (fault Short at))
-  wrong : Found s at (Refused (fault Number at))
+      → Found s at (Ok ((get_or s (at + 1) 0 * 128 + get_or s at 0 % 128), (cursor (at + 1 + 1))))
+  short : Found s at (Err (fault Short at))
+  wrong : Found s at (Err (fault Number at))
 
 -- what holds of both branches holds of the one picked
-by_test : (P : NumberRead → Type 0) (b : Bool) (x y : NumberRead) → (b ≡ true → P x) → (b ≡ false → P y) → P (pick b x y)
+by_test : (P : Result (ℕ × Cursor) Fault → Type 0) (b : Bool) (x y : Result (ℕ × Cursor) Fault) → (b ≡ true → P x) → (b ≡ false → P y) → P (pick b x y)
 unfolding pick
 by_test P true x y f g = f refl
 by_test P false x y f g = g refl
@@ -140,10 +139,10 @@ found s at =
     two (leb-false (length s) (at + 1) second) (ltb-false low 128 large) (omega arith) (ltb-false 127 high few))))))
 
 -- a number that was read is below 16,384
-pub value_small : (s : List ℕ) (at : ℕ) {v : ℕ} {c : Cursor} → number_at s at ≡ Value v c → v < 16384
+pub value_small : (s : List ℕ) (at : ℕ) {v : ℕ} {c : Cursor} → number_at s at ≡ Ok (v, c) → v < 16384
 value_small s at e = go (rw e at (found s at))
   where
-    go : {v : ℕ} {c : Cursor} → Found s at (Value v c) → v < 16384
+    go : {v : ℕ} {c : Cursor} → Found s at (Ok (v, c)) → v < 16384
     go (one inside small) = omega arith
     go (two inside large some few) = omega arith
 
@@ -154,7 +153,7 @@ pub record Spelled (s : List ℕ) (at v : ℕ) (c : Cursor) : Type 0 where
   pub bytes : drop at s ≡ number_bytes v ++ drop (at + number_length v) s
 
 -- the bytes of v are the only ones that read as v
-pub only_spelling : (s : List ℕ) (at : ℕ) {v : ℕ} {c : Cursor} → Bytes s → number_at s at ≡ Value v c → Spelled s at v c
+pub only_spelling : (s : List ℕ) (at : ℕ) {v : ℕ} {c : Cursor} → Bytes s → number_at s at ≡ Ok (v, c) → Spelled s at v c
 only_spelling s at are e = go (rw e at (found s at))
   where
     spelled : {v : ℕ} {c : Cursor} (bs : List ℕ) → number_bytes v ≡ bs → c ≡ cursor (at + length bs) → at + length bs ≤ length s
@@ -164,7 +163,7 @@ only_spelling s at are e = go (rw e at (found s at))
     step : (k : ℕ) → k < length s → drop k s ≡ get_or s k 0 ∷ drop (k + 1) s
     step k h = rw (add-one, drop-cons s k 0)
 
-    go : {v : ℕ} {c : Cursor} → Found s at (Value v c) → Spelled s at v c
+    go : {v : ℕ} {c : Cursor} → Found s at (Ok (v, c)) → Spelled s at v c
     go (one inside small) = spelled (get_or s at 0 ∷ []) (one_byte (get_or s at 0) small) refl (omega arith) (step at inside)
     go (two inside large some few) =
         let v : ℕ = get_or s (at + 1) 0 * 128 + get_or s at 0 % 128 in
@@ -176,15 +175,15 @@ only_spelling s at are e = go (rw e at (found s at))
         spelled (get_or s at 0 ∷ (get_or s (at + 1) 0 ∷ [])) bytes (ap cursor next) (omega arith) (rw next at rest)
 
 -- a number that is refused is SHORT or NUMBER where it begins
-pub refused : (s : List ℕ) (at : ℕ) {f : Fault} → number_at s at ≡ Refused f → (f ≡ fault Short at) ⊎ (f ≡ fault Number at)
+pub refused : (s : List ℕ) (at : ℕ) {f : Fault} → number_at s at ≡ Err f → (f ≡ fault Short at) ⊎ (f ≡ fault Number at)
 refused s at e = go (rw e at (found s at))
   where
-    go : {f : Fault} → Found s at (Refused f) → (f ≡ fault Short at) ⊎ (f ≡ fault Number at)
+    go : {f : Fault} → Found s at (Err f) → (f ≡ fault Short at) ⊎ (f ≡ fault Number at)
     go short = inl refl
     go wrong = inr refl
 
 -- so its place is where it begins
-pub refused_place : (s : List ℕ) (at : ℕ) {f : Fault} → number_at s at ≡ Refused f → f.place ≡ at
+pub refused_place : (s : List ℕ) (at : ℕ) {f : Fault} → number_at s at ≡ Err f → f.place ≡ at
 refused_place s at e = ⊎_elim (ap (λ (f : Fault). f.place)) (ap (λ (f : Fault). f.place)) (refused s at e)
 
 -- Writing.
@@ -232,7 +231,7 @@ length_written s at v = go (has_room s at v)
     go false = refl
 
 -- reading what was written gives the number, and the offset past it
-pub read_written : (s : List ℕ) (at v : ℕ) → has_room s at v ≡ true → number_at (written s at v) at ≡ Value v (cursor (written_end s at v))
+pub read_written : (s : List ℕ) (at v : ℕ) → has_room s at v ≡ true → number_at (written s at v) at ≡ Ok (v, (cursor (written_end s at v)))
 unfolding written_end pick
 read_written s at v h =
     let small : v < 16384 = (room_fits s at v h).0 in

@@ -1,9 +1,8 @@
 -- "A number is one byte below 128, or two bytes: the first is 128 plus the low seven bits, the second (1 to 127) the high seven."
-use Rattle.std.specs.Prelude.{ℕ, ◌+◌, ◌*◌, ◌/◌, ◌%◌, ◌<◌, List, [], ◌∷◌, Bool, true, false, ◌&&◌, length, get_or, ltb, leb, eqb}
+use Rattle.std.specs.Prelude.{ℕ, ◌+◌, ◌*◌, ◌/◌, ◌%◌, ◌<◌, List, [], ◌∷◌, Bool, true, false, ◌&&◌, Result, Ok, Err, length, get_or, ltb, leb, eqb}
 use Rattle.std.proofs.lemmas.List.Edits.{sets}
 use Rattle.number.specs.declared.Cursor.{Cursor}
-use Rattle.number.specs.declared.NumberRead.{NumberRead}
-use Rattle.number.specs.declared.NumberRead.TheVariants.{Value, Refused}
+use Rattle.number.specs.declared.Fault.{Fault}
 use Rattle.number.specs.declared.Refusal.TheVariants.{Short, Number}
 use Rattle.number.specs.Refusals.{fault}
 
@@ -16,21 +15,16 @@ abbrev pub cursor : ℕ → Cursor
 cursor at = record { at = at }
 
 -- the number that begins at `at`: "SHORT: bytes end", "NUMBER: second byte 0 or over 127", both at the "offset of the number begun"
-unfoldable pub number_at : List ℕ → ℕ → NumberRead
+unfoldable pub number_at : List ℕ → ℕ → Result (ℕ × Cursor) Fault
 unfolding pick
 number_at s at =
     let low : ℕ = get_or s at 0 in
     let high : ℕ = get_or s (at + 1) 0 in
-    pick (leb (length s) at) (Refused (fault Short at))
-    (pick (ltb low 128) (Value low (cursor (at + 1)))
-    (pick (leb (length s) (at + 1)) (Refused (fault Short at))
-    (pick (eqb high 0) (Refused (fault Number at))
-    (pick (ltb 127 high) (Refused (fault Number at)) (Value (high * 128 + low % 128) (cursor (at + 1 + 1)))))))
-
--- no value was read
-abbrev pub IsRefused : NumberRead → Type 0
-IsRefused (Value v c) = ⊥
-IsRefused (Refused f) = Unit
+    pick (leb (length s) at) (Err (fault Short at))
+    (pick (ltb low 128) (Ok (low, cursor (at + 1)))
+    (pick (leb (length s) (at + 1)) (Err (fault Short at))
+    (pick (eqb high 0) (Err (fault Number at))
+    (pick (ltb 127 high) (Err (fault Number at)) (Ok (high * 128 + low % 128, cursor (at + 1 + 1)))))))
 
 -- the bytes of the number v, which is below 16,384
 unfoldable pub number_bytes : ℕ → List ℕ

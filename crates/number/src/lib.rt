@@ -3,22 +3,22 @@
 
 ghost use Rattle.std.specs.Prelude.{◌≡◌};
 ghost use Rattle.number.specs.Counts.{signal_no, of_signal, halt_no, of_halt, stmt_no, of_stmt, cell_no, of_cell};
-ghost use Rattle.number.specs.Refusals.{refusal_no};
-ghost use Rattle.number.specs.Number.{number_at, IsRefused, written, written_end};
+ghost use Rattle.number.specs.Refusals.{refusal_no, fault};
+ghost use Rattle.number.specs.Number.{number_at, written, written_end};
 
 // "a number of one count must never serve as a number of another": the fields are private, so nobody converts but by these functions.
-#[derive(Clone, Copy)]
+#[derive(Clone, Copy, Debug, PartialEq, Eq, Hash)]
 pub struct SignalNo(u16);
 
-#[derive(Clone, Copy)]
+#[derive(Clone, Copy, Debug, PartialEq, Eq, Hash)]
 pub struct HaltNo(u16);
 
-#[derive(Clone, Copy)]
+#[derive(Clone, Copy, Debug, PartialEq, Eq, Hash)]
 pub struct StmtNo(u16);
 
 // Laid out for C, since a table of cells goes there whole.
 #[repr(C)]
-#[derive(Clone, Copy)]
+#[derive(Clone, Copy, Debug, PartialEq, Eq, Hash)]
 pub struct CellNo(u16);
 
 impl SignalNo {
@@ -78,10 +78,10 @@ impl CellNo {
 }
 
 // The paper's "Numbers returned", 1 to 16 in its order, and those that the requests add, 17 to 22, by the names that they have there. These stand here whether or
-// not their request has landed, so that none adds a case to a type that every crate goes by.
-#[derive(Clone, Copy)]
+// not their request has landed, so that none adds a case to a type that every crate goes by. A refusal's number is the variant's own.
+#[derive(Clone, Copy, Debug, PartialEq, Eq, Hash)]
 pub enum Refusal {
-    Short,
+    Short = 1,
     Number,
     Kind,
     Count,
@@ -106,106 +106,64 @@ pub enum Refusal {
 }
 
 // A refusal with its place.
-#[derive(Clone, Copy)]
+#[derive(Clone, Copy, Debug, PartialEq, Eq, Hash)]
 pub struct Fault {
     pub refusal: Refusal,
     pub place: usize,
 }
 
-pub fn refusal_no(r: Refusal) -> u8
-    ensures { result ≡ refusal_no r }
-{
-    match r {
-        Refusal::Short => 1,
-        Refusal::Number => 2,
-        Refusal::Kind => 3,
-        Refusal::Count => 4,
-        Refusal::Scope => 5,
-        Refusal::Emit => 6,
-        Refusal::Exit => 7,
-        Refusal::Extra => 8,
-        Refusal::Instant => 9,
-        Refusal::Twice => 10,
-        Refusal::Room => 11,
-        Refusal::Cycle => 12,
-        Refusal::Event => 13,
-        Refusal::State => 14,
-        Refusal::Buffer => 15,
-        Refusal::Cell => 16,
-        Refusal::Word => 17,
-        Refusal::Name => 18,
-        Refusal::Cover => 19,
-        Refusal::Order => 20,
-        Refusal::Line => 21,
-        Refusal::States => 22,
+impl Refusal {
+    // This refusal at a place.
+    pub fn at(self, place: usize) -> Fault
+        ensures { result ≡ fault self place }
+    {
+        Fault {
+            refusal: self,
+            place,
+        }
+    }
+}
+
+impl From<Refusal> for u8 {
+    ghost from_gives = { λ r n. n ≡ refusal_no r };
+
+    fn from(r: Refusal) -> u8 {
+        r as u8
     }
 }
 
 // Where a reader is.
-#[derive(Clone, Copy)]
+#[derive(Clone, Copy, Debug, PartialEq, Eq, Hash)]
 pub struct Cursor {
     pub at: usize,
 }
 
-// What reading a number finds: its value with the cursor past it, or the refusal.
-#[derive(Clone, Copy)]
-pub enum NumberRead {
-    Value(u32, Cursor),
-    Refused(Fault),
-}
-
-// The number that begins at `at`.
-pub fn read_number(s: &[u8], at: usize) -> NumberRead
+// The number that begins at `at`, with the cursor past it.
+pub fn read_number(s: &[u8], at: usize) -> Result<(u32, Cursor), Fault>
     ensures { result ≡ number_at s.now at }
 {
     if s.len() <= at {
-        return NumberRead::Refused(Fault {
-            refusal: Refusal::Short,
-            place: at,
-        });
+        return Err(Refusal::Short.at(at));
     }
     let low = s[at];
     if low < 128 {
-        return NumberRead::Value(low as u32, Cursor { at: at + 1 });
+        return Ok((low as u32, Cursor { at: at + 1 }));
     }
     let second = at + 1;
     if s.len() <= second {
-        return NumberRead::Refused(Fault {
-            refusal: Refusal::Short,
-            place: at,
-        });
+        return Err(Refusal::Short.at(at));
     }
     let high = s[second];
     if high == 0 {
-        return NumberRead::Refused(Fault {
-            refusal: Refusal::Number,
-            place: at,
-        });
+        return Err(Refusal::Number.at(at));
     }
     if 127 < high {
-        return NumberRead::Refused(Fault {
-            refusal: Refusal::Number,
-            place: at,
-        });
+        return Err(Refusal::Number.at(at));
     }
-    NumberRead::Value(
+    Ok((
         high as u32 * 128 + low as u32 % 128,
         Cursor { at: second + 1 },
-    )
-}
-
-// The fault of a number that was refused. Its callers have tested that, so what stands for a value is never answered.
-pub fn fault_of(r: NumberRead) -> Fault
-    requires { IsRefused r }
-    ensures { r ≡ NumberRead.Refused result }
-{
-    match r {
-        NumberRead::Refused(f) => f,
-        NumberRead::Value(_, c) => Fault {
-            refusal: Refusal::Number,
-            place: c.at,
-        },
-    }
+    ))
 }
 
 // Writes the number v at `at` and answers the offset past it. Where it is too large or the room too short nothing is written, and the

@@ -14,10 +14,9 @@ use Rattle.number.specs.Counts.{cell_no, of_cell}
 use Rattle.number.proofs.Bools.{and_left, and_right}
 use Rattle.cells.specs.declared.Cell.{Cell}
 use Rattle.cells.specs.Cells.{cell_at}
-use Rattle.cells.specs.declared.Pins.{Pins}
-use Rattle.cells.specs.declared.Pins.TheVariants.{None, Two}
 use Rattle.cells.specs.Needs.{pins_of, Among, Needs, IsCell}
 use Rattle.order.specs.Paths.{placed, Ordered}
+use Rattle.std.specs.Prelude.{Option, Some, None}
 
 -- f holds of all numbers below n
 unfoldable pub every : ℕ → (ℕ → Bool) → Bool
@@ -45,9 +44,9 @@ module _ (cells : List Cell) (order places : List ℕ) where
   abbrev before : ℕ → CellNo → Bool
   before j y = ltb (place (of_cell y)) j && eqb (at (place (of_cell y))) (of_cell y)
 
-  abbrev needed : ℕ → Pins → Bool
+  abbrev needed : ℕ → Option (CellNo × CellNo) → Bool
   needed j None = true
-  needed j (Two x y) = before j x && before j y
+  needed j (Some (x, y)) = before j x && before j y
 
   unfoldable pub in_order_at : ℕ → Bool
   in_order_at j =
@@ -60,9 +59,9 @@ module _ (cells : List Cell) (order places : List ℕ) where
       let same : Bool = eqb (at i) (of_cell y) in
       (i, ltb-true i j (and_left (ltb i j) same e), ap cell_no (eqb-true (at i) (of_cell y) (and_right (ltb i j) same e)))
 
-  pins_before : (j : ℕ) (p : Pins) (y : CellNo) → needed j p ≡ true → Among p y → (i : ℕ) × (i < j) × (placed order i ≡ y)
+  pins_before : (j : ℕ) (p : Option (CellNo × CellNo)) (y : CellNo) → needed j p ≡ true → Among p y → (i : ℕ) × (i < j) × (placed order i ≡ y)
   pins_before j None y e h = absurd h
-  pins_before j (Two a b) y e h =
+  pins_before j (Some (a, b)) y e h =
       ⊎_elim (λ q. subst (λ (z : CellNo). (i : ℕ) × (i < j) × (placed order i ≡ z)) q (stands_before j a (and_left (before j a) (before j b) e)))
       (λ q. subst (λ (z : CellNo). (i : ℕ) × (i < j) × (placed order i ≡ z)) q (stands_before j b (and_right (before j a) (before j b) e))) h
 

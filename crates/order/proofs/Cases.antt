@@ -15,13 +15,11 @@ use Rattle.number.proofs.Bools.{or_left_off, or_right_off}
 use Rattle.cells.specs.declared.Cell.{Cell}
 use Rattle.cells.specs.declared.Cell.TheVariants.{Low, High, Gate, Register}
 use Rattle.cells.specs.declared.Gate.TheVariants.{Or, And, Butnot}
-use Rattle.cells.specs.declared.Pins.{Pins}
-use Rattle.cells.specs.declared.Pins.TheVariants.{None, Two}
 use Rattle.cells.specs.Needs.{pins_of, Among, Needs}
-use Rattle.order.specs.declared.Ordering.{Ordering}
-use Rattle.order.specs.declared.Ordering.TheVariants.{Cycle}
 use Rattle.order.specs.Paths.{Reaches, one, more, OnCycle, Lowest, Answers}
 use Rattle.order.proofs.Unique.{answers_cycle, answer_unique}
+use Rattle.order.specs.declared.Cycle.{Cycle}
+use Rattle.std.specs.Prelude.{Option, Some, None, Result, Err}
 
 -- the first step of a way, and its last
 starts : {cells : List Cell} {x y : CellNo} → Reaches cells x y → (z : CellNo) × Needs cells x z
@@ -33,9 +31,9 @@ ends (one {x = x} needs) = (x, needs)
 ends (more needs way) = ends way
 
 -- whether a cell of the list needs cell y
-abbrev asks : Pins → ℕ → Bool
+abbrev asks : Option (CellNo × CellNo) → ℕ → Bool
 asks None y = false
-asks (Two a b) y = eqb (of_cell a) y || eqb (of_cell b) y
+asks (Some (a, b)) y = eqb (of_cell a) y || eqb (of_cell b) y
 
 abbrev needed : List Cell → ℕ → Bool
 needed [] y = false
@@ -45,9 +43,9 @@ not_needed : (cells : List Cell) (k y : ℕ) → needed cells y ≡ false → Am
 not_needed [] k y e h = h
 not_needed (c ∷ cells) zero y e h = not_asked (pins_of c) (or_left_off (asks (pins_of c) y) _ e) h
   where
-    not_asked : (p : Pins) → asks p y ≡ false → Among p (cell_no y) → ⊥
+    not_asked : (p : Option (CellNo × CellNo)) → asks p y ≡ false → Among p (cell_no y) → ⊥
     not_asked None e h = h
-    not_asked (Two a b) e h =
+    not_asked (Some (a, b)) e h =
         ⊎_elim (λ q. eqb-false (of_cell a) y (or_left_off (eqb (of_cell a) y) _ e) (ap of_cell q))
         (λ q. eqb-false (of_cell b) y (or_right_off (eqb (of_cell a) y) _ e) (ap of_cell q)) h
 not_needed (c ∷ cells) (suc k) y e h = not_needed cells k y (or_right_off (asks (pins_of c) y) _ e) h
@@ -68,8 +66,8 @@ p5_lowest = record { on = more {y = cell_no 6} (record { among = inl refl }) (on
     below (suc (suc k)) h way = omega arith
 
 -- "CYCLE 2"
-pub p5_answer : (order : List ℕ) (r : Ordering) → Answers p5 order r → r ≡ Cycle (cell_no 2)
-p5_answer order r a = answer_unique r (Cycle (cell_no 2)) a (answers_cycle {order = order} p5_lowest)
+pub p5_answer : (order : List ℕ) (r : Result (Unit {0}) Cycle) → Answers p5 order r → r ≡ Err (record { lowest = cell_no 2 })
+p5_answer order r a = answer_unique r (Err (record { lowest = cell_no 2 })) a (answers_cycle {order = order} p5_lowest)
 
 -- sheet `00 01 0A 03 05 02 02 01 00 05 02 00 02 02`: cell 2 is the output, which needs the local's cell 3 by way of 6; cell 3 is on a cycle with 10
 abbrev waiting : List Cell
@@ -89,5 +87,5 @@ waiting_lowest = record { on = more {y = cell_no 10} (record { among = inl refl 
     below (suc (suc (suc k))) h way = omega arith
 
 -- "CYCLE 3"
-pub waiting_answer : (order : List ℕ) (r : Ordering) → Answers waiting order r → r ≡ Cycle (cell_no 3)
-waiting_answer order r a = answer_unique r (Cycle (cell_no 3)) a (answers_cycle {order = order} waiting_lowest)
+pub waiting_answer : (order : List ℕ) (r : Result (Unit {0}) Cycle) → Answers waiting order r → r ≡ Err (record { lowest = cell_no 3 })
+waiting_answer order r a = answer_unique r (Err (record { lowest = cell_no 3 })) a (answers_cycle {order = order} waiting_lowest)

@@ -1,5 +1,5 @@
 -- The lent columns: a mark or a place after a store, and how many marks are 0.
-use Prim.Native.Nat.{ℕ, suc, zero, ◌+◌, ◌<◌, ◌≤◌}
+use Prim.Native.Nat.{ℕ, suc, zero, ◌<◌, ◌≤◌}
 use mathlib.Core.Path.{◌≡◌, refl, ap, ◌∙◌, subst⁻¹}
 use mathlib.Core.List.{List, [], ◌∷◌}
 use native.Mathlib.Omega.{arith}
@@ -8,10 +8,11 @@ use lib.ListN.{length, get_or, set, replicate, get_or-eq_default}
 use lib.Seq.{get_or-set_same, get_or-set_other}
 use Rattle.number.specs.Counts.{cell_no, of_cell}
 use Rattle.number.specs.declared.CellNo.{CellNo}
-use Rattle.limits.specs.Limits.{max_cells}
 use Rattle.cells.specs.declared.Cell.{Cell}
-use Rattle.order.specs.Paths.{Orderable, placed}
-use Rattle.order.specs.Search.{WorkRoom, mark, IsBlank, Seen, HasPlace, zeros}
+use Rattle.order.specs.Paths.{placed}
+use Rattle.order.specs.declared.Mark.{Mark}
+use Rattle.order.specs.declared.Mark.TheVariants.{New, Open, Placed}
+use Rattle.order.specs.Search.{WorkRoom, progress, reached, IsUnmarked, Seen, HasPlace, unmet, mark, IsBlank, zeros}
 
 -- two cells are the same or not
 pub same : (x y : CellNo) → Dec (x ≡ y)
@@ -21,27 +22,34 @@ same x y = go (ℕ_discrete (of_cell x) (of_cell y))
     go (yes e) = yes (ap cell_no e)
     go (no n) = no (λ e. n (ap of_cell e))
 
-pub mark_same : (marks : List ℕ) (x : CellNo) (v : ℕ) → of_cell x < length marks → mark (set marks (of_cell x) v) x ≡ v
-mark_same marks x v h = get_or-set_same marks (of_cell x) v 0 h
+pub progress_same : (marks : List Mark) (x : CellNo) (v : Mark) → of_cell x < length marks → progress (set marks (of_cell x) v) x ≡ reached v
+progress_same marks x v h = ap reached (get_or-set_same marks (of_cell x) v New h)
 
-pub mark_other : (marks : List ℕ) (x y : CellNo) (v : ℕ) → (y ≡ x → ⊥) → mark (set marks (of_cell x) v) y ≡ mark marks y
-mark_other marks x y v n = get_or-set_other marks (of_cell x) (of_cell y) v 0 (λ e. n (ap cell_no e))
+pub progress_other : (marks : List Mark) (x y : CellNo) (v : Mark) → (y ≡ x → ⊥) → progress (set marks (of_cell x) v) y ≡ progress marks y
+progress_other marks x y v n = ap reached (get_or-set_other marks (of_cell x) (of_cell y) v New (λ e. n (ap cell_no e)))
+
+-- a cell that is not new was seen
+pub met : (m : Mark) → (m ≡ New → ⊥) → 0 < reached m
+met New other = absurd (other refl)
+met Open other = omega arith
+met Placed other = omega arith
 
 -- a cell that was seen stays so, whatever cell is marked
-pub still_seen : (marks : List ℕ) (x y : CellNo) (v : ℕ) → of_cell x < length marks → Seen marks y → Seen (set marks (of_cell x) (suc v)) y
-still_seen marks x y v h s = go (same y x)
+pub still_seen : (marks : List Mark) (x y : CellNo) (v : Mark) → 0 < reached v → of_cell x < length marks → Seen marks y
+    → Seen (set marks (of_cell x) v) y
+still_seen marks x y v some h s = go (same y x)
   where
-    go : Dec (y ≡ x) → Seen (set marks (of_cell x) (suc v)) y
-    go (yes e) = subst⁻¹ (λ (z : CellNo). Seen (set marks (of_cell x) (suc v)) z) e (omega (arith, mark_same marks x (suc v) h))
-    go (no n) = rw (mark_other marks x y (suc v) n) s
+    go : Dec (y ≡ x) → Seen (set marks (of_cell x) v) y
+    go (yes e) = subst⁻¹ (λ (z : CellNo). Seen (set marks (of_cell x) v) z) e (omega (arith, progress_same marks x v h))
+    go (no n) = rw (progress_other marks x y v n) s
 
 -- what is marked lies in the column
-pub seen_low : (marks : List ℕ) (x : CellNo) → Seen marks x → of_cell x < length marks
+pub seen_low : (marks : List Mark) (x : CellNo) → Seen marks x → of_cell x < length marks
 seen_low marks x s = go (dec_lt (of_cell x) (length marks))
   where
     go : Dec (of_cell x < length marks) → of_cell x < length marks
     go (yes h) = h
-    go (no h) = absurd (omega (arith, get_or-eq_default marks 0 {n = of_cell x} (omega arith)))
+    go (no h) = absurd (omega (arith, ap reached (get_or-eq_default marks New {n = of_cell x} (omega arith))))
 
 pub placed_same : (column : List ℕ) (j : ℕ) (x : CellNo) → j < length column → placed (set column j (of_cell x)) j ≡ x
 placed_same column j x h = ap cell_no (get_or-set_same column j (of_cell x) 0 h)
@@ -60,6 +68,55 @@ still_stands {column} m k x h h' w =
     }
 
 -- a cell that is marked for the first time is one less to come
+pub unmet_new : (n : ℕ) (marks : List Mark) (i : ℕ) (v : Mark) → 0 < reached v → i < n → i < length marks → reached (get_or marks i New) ≡ 0
+    → suc (unmet n (set marks i v)) ≡ unmet n marks
+unfolding unmet
+unmet_new zero marks i v some h h' e = absurd (omega arith)
+unmet_new (suc n) [] i v some h h' e = absurd (omega arith)
+unmet_new (suc n) (m ∷ marks) zero v some h h' e = omega arith
+unmet_new (suc n) (m ∷ marks) (suc i) v some h h' e = omega (arith, unmet_new n marks i v some (omega arith) (omega arith) e)
+
+-- and marking it again changes nothing
+pub unmet_again : (n : ℕ) (marks : List Mark) (i : ℕ) (v : Mark) → 0 < reached v → 0 < reached (get_or marks i New)
+    → unmet n (set marks i v) ≡ unmet n marks
+unfolding unmet
+unmet_again zero marks i v some h = refl
+unmet_again (suc n) [] i v some h = refl
+unmet_again (suc n) (m ∷ marks) zero v some h = omega arith
+unmet_again (suc n) (m ∷ marks) (suc i) v some h = omega (arith, unmet_again n marks i v some h)
+
+-- before the first mark
+pub unmet_all : (n : ℕ) (marks : List Mark) → n ≤ length marks → IsUnmarked marks → unmet n marks ≡ n
+unfolding unmet
+unmet_all zero marks h z = refl
+unmet_all (suc n) [] h z = absurd (omega arith)
+unmet_all (suc n) (m ∷ marks) h z = omega (arith, z 0, unmet_all n marks (omega arith) (λ i. z (suc i)))
+
+-- and after the last
+pub unmet_none : (n : ℕ) (marks : List Mark) → ((i : ℕ) → i < n → 0 < reached (get_or marks i New)) → unmet n marks ≡ 0
+unfolding unmet
+unmet_none zero marks s = refl
+unmet_none (suc n) [] s = refl
+unmet_none (suc n) (m ∷ marks) s = omega (arith, s 0 (omega arith), unmet_none n marks (λ i h. s (suc i) (omega arith)))
+
+-- A store keeps a column's length, so what was lent suffices after it.
+pub still_lent : {cells : List Cell} {marks marks' : List Mark} {stack stack' : List ℕ} → WorkRoom cells marks stack → length marks' ≡ length marks
+    → length stack' ≡ length stack → WorkRoom cells marks' stack'
+still_lent l m s = record { few = l.few; wide = omega (arith, l.wide); deep = omega (arith, l.deep) }
+
+-- new cells are not marked
+pub new_marks : (n : ℕ) → IsUnmarked (replicate n New)
+new_marks zero i = refl
+new_marks (suc n) zero = refl
+new_marks (suc n) (suc i) = new_marks n i
+
+-- The same of the columns of numbers that the crates above search with.
+pub mark_same : (marks : List ℕ) (x : CellNo) (v : ℕ) → of_cell x < length marks → mark (set marks (of_cell x) v) x ≡ v
+mark_same marks x v h = get_or-set_same marks (of_cell x) v 0 h
+
+pub mark_other : (marks : List ℕ) (x y : CellNo) (v : ℕ) → (y ≡ x → ⊥) → mark (set marks (of_cell x) v) y ≡ mark marks y
+mark_other marks x y v n = get_or-set_other marks (of_cell x) (of_cell y) v 0 (λ e. n (ap cell_no e))
+
 pub zeros_new : (n : ℕ) (marks : List ℕ) (i v : ℕ) → i < n → i < length marks → get_or marks i 0 ≡ 0
     → suc (zeros n (set marks i (suc v))) ≡ zeros n marks
 unfolding zeros
@@ -70,7 +127,6 @@ zeros_new (suc n) (suc m ∷ marks) zero v h h' e = absurd (omega arith)
 zeros_new (suc n) (zero ∷ marks) (suc i) v h h' e = ap suc (zeros_new n marks i v (omega arith) (omega arith) e)
 zeros_new (suc n) (suc m ∷ marks) (suc i) v h h' e = zeros_new n marks i v (omega arith) (omega arith) e
 
--- and marking it again changes nothing
 pub zeros_again : (n : ℕ) (marks : List ℕ) (i v : ℕ) → 0 < get_or marks i 0 → zeros n (set marks i (suc v)) ≡ zeros n marks
 unfolding zeros
 zeros_again zero marks i v h = refl
@@ -79,48 +135,6 @@ zeros_again (suc n) (zero ∷ marks) zero v h = absurd (omega arith)
 zeros_again (suc n) (suc m ∷ marks) zero v h = refl
 zeros_again (suc n) (zero ∷ marks) (suc i) v h = ap suc (zeros_again n marks i v h)
 zeros_again (suc n) (suc m ∷ marks) (suc i) v h = zeros_again n marks i v h
-
--- before the first mark
-pub zeros_all : (n : ℕ) (marks : List ℕ) → n ≤ length marks → IsBlank marks → zeros n marks ≡ n
-unfolding zeros
-zeros_all zero marks h z = refl
-zeros_all (suc n) [] h z = absurd (omega arith)
-zeros_all (suc n) (zero ∷ marks) h z = ap suc (zeros_all n marks (omega arith) (λ i. z (suc i)))
-zeros_all (suc n) (suc m ∷ marks) h z = absurd (omega (arith, z 0))
-
--- and after the last
-pub zeros_none : (n : ℕ) (marks : List ℕ) → ((i : ℕ) → i < n → 0 < get_or marks i 0) → zeros n marks ≡ 0
-unfolding zeros
-zeros_none zero marks s = refl
-zeros_none (suc n) [] s = refl
-zeros_none (suc n) (zero ∷ marks) s = absurd (omega (arith, s 0 (omega arith)))
-zeros_none (suc n) (suc m ∷ marks) s = zeros_none n marks (λ i h. s (suc i) (omega arith))
-
--- Clearing the marks.
-pub clear_more : (marks : List ℕ) (i : ℕ) → i < length marks → ((k : ℕ) → k < i → get_or marks k 0 ≡ 0) → (k : ℕ) → k < i + 1
-    → get_or (set marks i 0) k 0 ≡ 0
-clear_more marks i h z k low = go (ℕ_discrete k i)
-  where
-    go : Dec (k ≡ i) → get_or (set marks i 0) k 0 ≡ 0
-    go (yes e) = ap (λ (n : ℕ). get_or (set marks i 0) n 0) e ∙ get_or-set_same marks i 0 0 h
-    go (no n) = get_or-set_other marks i k 0 0 n ∙ z k (omega arith)
-
-pub clear_all : (marks : List ℕ) (i : ℕ) → length marks ≤ i → ((k : ℕ) → k < i → get_or marks k 0 ≡ 0) → IsBlank marks
-clear_all marks i h z k = go (dec_lt k i)
-  where
-    go : Dec (k < i) → get_or marks k 0 ≡ 0
-    go (yes low) = z k low
-    go (no n) = get_or-eq_default marks 0 (omega arith)
-
--- A store keeps a column's length, so what was lent suffices after it.
-pub still_lent : {cells : List Cell} {marks marks' stack stack' : List ℕ} → WorkRoom cells marks stack → length marks' ≡ length marks
-    → length stack' ≡ length stack → WorkRoom cells marks' stack'
-still_lent l m s = record { few = l.few; wide = omega (arith, l.wide); deep = omega (arith, l.deep) }
-
--- Marks for the most cells, and the column that the order is handed out in, suffice for all cells that can be ordered; zeros are no marks.
-pub lent : {cells : List Cell} {marks order order' : List ℕ} → Orderable cells order → length marks ≡ max_cells → length order' ≡ length order
-    → WorkRoom cells marks order'
-lent o m s = record { few = omega (arith, o.few); wide = omega (arith, o.few); deep = omega (arith, o.long) }
 
 pub blank : (n : ℕ) → IsBlank (replicate n 0)
 blank zero i = refl

@@ -11,60 +11,60 @@ use Rattle.number.specs.Counts.{cell_no, of_cell}
 use Rattle.number.specs.declared.CellNo.{CellNo}
 use Rattle.cells.specs.declared.Cell.{Cell}
 use Rattle.cells.specs.Cells.{cell_at}
-use Rattle.cells.specs.declared.Pins.{Pins}
-use Rattle.cells.specs.declared.Pins.TheVariants.{None, Two}
 use Rattle.cells.specs.Needs.{IsCell, pins_of, Needs, Closed}
 use Rattle.cells.proofs.Needing.{needs_first, needs_second, needs_only, needs_none}
-use Rattle.order.specs.declared.Ordering.{Ordering}
-use Rattle.order.specs.declared.Ordering.TheVariants.{Found, Cycle}
 use Rattle.order.specs.Paths.{OnCycle, Lowest, placed, Ordered, Answers}
-use Rattle.order.specs.Search.{WorkRoom, mark, IsOpen, IsDone, waiting, zeros, Searching, HasCycle, left, Went, Through, Noted, old, new}
+use Rattle.order.specs.declared.Mark.{Mark}
+use Rattle.order.specs.declared.Mark.TheVariants.{New, Open}
+use Rattle.order.specs.Search.{WorkRoom, progress, IsOpen, IsDone, waiting, unmet, Searching, HasCycle, left, Went, Through, Noted, old, new}
 use Rattle.order.specs.Search.{Expanded}
-use Rattle.order.proofs.Columns.{blank}
+use Rattle.order.proofs.Columns.{new_marks}
 use Rattle.order.proofs.Searches.{begins, place_free, goes_deeper, places_top, comes_back, Under, under_begins, under_goes_on, under_ends}
 use Rattle.order.proofs.Searches.{Upto, upto_more, all_placed}
 use Rattle.order.proofs.Hunts.{expand_none, expand_both, Between, between_begins, goes_on, all_seen, Passed, passed_more, passed_low}
 use Rattle.order.proofs.Unique.{answers_found, answers_cycle, answer_found}
+use Rattle.order.specs.declared.Cycle.{Cycle}
+use Rattle.std.specs.Prelude.{Option, Some, None, Result, Ok, Err}
 
 module _ {cells : List Cell} (closed : Closed cells) where
   -- what is next for the cell x: an operand that is new, one that is open, or nothing is left to do
-  data Next (marks : List ℕ) (x : CellNo) : Type 0 where
-    fresh : (y : CellNo) → Needs cells x y → mark marks y ≡ 0 → Next marks x
+  data Next (marks : List Mark) (x : CellNo) : Type 0 where
+    fresh : (y : CellNo) → Needs cells x y → progress marks y ≡ 0 → Next marks x
     back : (y : CellNo) → Needs cells x y → IsOpen marks y → Next marks x
     clear : ((y : CellNo) → Needs cells x y → IsDone marks y) → Next marks x
 
-  look : (marks : List ℕ) (x : CellNo) → Next marks x
+  look : (marks : List Mark) (x : CellNo) → Next marks x
   look marks x = go (pins_of (cell_at cells x)) refl
     where
-      second : (a b : CellNo) → pins_of (cell_at cells x) ≡ Two a b → IsDone marks a → (m : ℕ) → mark marks b ≡ m → Next marks x
+      second : (a b : CellNo) → pins_of (cell_at cells x) ≡ Some (a, b) → IsDone marks a → (m : ℕ) → progress marks b ≡ m → Next marks x
       second a b pins done zero e = fresh b (needs_second pins) e
       second a b pins done (suc zero) e = back b (needs_second pins) e
       second a b pins done (suc (suc m)) e = clear (needs_only pins (IsDone marks) done (omega (arith, e)))
 
-      first : (a b : CellNo) → pins_of (cell_at cells x) ≡ Two a b → (m : ℕ) → mark marks a ≡ m → Next marks x
+      first : (a b : CellNo) → pins_of (cell_at cells x) ≡ Some (a, b) → (m : ℕ) → progress marks a ≡ m → Next marks x
       first a b pins zero e = fresh a (needs_first pins) e
       first a b pins (suc zero) e = back a (needs_first pins) e
-      first a b pins (suc (suc m)) e = second a b pins (omega (arith, e)) (mark marks b) refl
+      first a b pins (suc (suc m)) e = second a b pins (omega (arith, e)) (progress marks b) refl
 
-      go : (p : Pins) → pins_of (cell_at cells x) ≡ p → Next marks x
+      go : (p : Option (CellNo × CellNo)) → pins_of (cell_at cells x) ≡ p → Next marks x
       go None e = clear (λ y needs. absurd (needs_none e needs))
-      go (Two a b) e = first a b e (mark marks a) refl
+      go (Some (a, b)) e = first a b e (progress marks a) refl
 
   -- a search that has ended
-  record Finished (marks₀ : List ℕ) : Type 0 where
-    marks : List ℕ
+  record Finished (marks₀ : List Mark) : Type 0 where
+    marks : List Mark
     order : List ℕ
     count : ℕ
     under : Under cells marks₀ marks order 0 count
 
-  ended : {marks₀ marks order : List ℕ} {top count : ℕ} → Under cells marks₀ marks order top count → top ≡ 0 → Finished marks₀
+  ended : {marks₀ marks : List Mark} {order : List ℕ} {top count : ℕ} → Under cells marks₀ marks order top count → top ≡ 0 → Finished marks₀
   ended {marks₀} {marks} {order} {count = count} u e =
       let under = subst (λ (n : ℕ). Under cells marks₀ marks order n count) e u in
       record { marks = marks; order = order; count = count; under = under }
 
   -- one step, from which the search goes on
-  module _ {marks₀ marks order : List ℕ} {top count : ℕ} (u : Under cells marks₀ marks order top count)
-      (on : (marks' order' : List ℕ) (top' count' : ℕ) → Went cells marks marks' order' top top' count' → HasCycle cells ⊎ Finished marks₀)
+  module _ {marks₀ marks : List Mark} {order : List ℕ} {top count : ℕ} (u : Under cells marks₀ marks order top count)
+      (on : (marks' : List Mark) (order' : List ℕ) (top' count' : ℕ) → Went cells marks marks' order' top top' count' → HasCycle cells ⊎ Finished marks₀)
     where
       abbrev x : CellNo
       x = waiting order top
@@ -82,7 +82,7 @@ module _ {cells : List Cell} (closed : Closed cells) where
       turn (no none) = inr (ended u (omega arith))
 
   -- it ends, since each step leaves less to do
-  search : (fuel : ℕ) {marks₀ marks order : List ℕ} {top count : ℕ} → left cells marks top ≤ fuel → Under cells marks₀ marks order top count
+  search : (fuel : ℕ) {marks₀ marks : List Mark} {order : List ℕ} {top count : ℕ} → left cells marks top ≤ fuel → Under cells marks₀ marks order top count
       → HasCycle cells ⊎ Finished marks₀
   search zero few u = inr (ended u (omega arith))
   search (suc fuel) {top = top} few u =
@@ -94,13 +94,13 @@ module _ {cells : List Cell} (closed : Closed cells) where
 
   -- from each cell in turn
   record Visited (i : ℕ) : Type 0 where
-    marks : List ℕ
+    marks : List Mark
     order : List ℕ
     count : ℕ
     upto : Upto cells marks order count i
 
   visit : (i : ℕ) → IsCell cells (cell_no i) → Visited i → HasCycle cells ⊎ Visited (i + 1)
-  visit i is v = go (mark v.marks (cell_no i)) refl
+  visit i is v = go (progress v.marks (cell_no i)) refl
     where
       now : Searching cells v.marks v.order 0 v.count
       now = v.upto.searching
@@ -108,18 +108,18 @@ module _ {cells : List Cell} (closed : Closed cells) where
       wide : i < length v.marks
       wide = omega (arith, now.lent.wide)
 
-      further : {marks order : List ℕ} {count : ℕ} → Through cells v.marks marks order (cell_no i) count → Visited (i + 1)
+      further : {marks : List Mark} {order : List ℕ} {count : ℕ} → Through cells v.marks marks order (cell_no i) count → Visited (i + 1)
       further {marks} {order} {count} t = record { marks = marks; order = order; count = count; upto = upto_more v.upto t }
 
-      after : HasCycle cells ⊎ Finished (set v.marks i 1) → HasCycle cells ⊎ Visited (i + 1)
+      after : HasCycle cells ⊎ Finished (set v.marks i Open) → HasCycle cells ⊎ Visited (i + 1)
       after (inl cycle) = inl cycle
       after (inr f) = inr (further (under_ends (cell_no i) wide f.under))
 
-      go : (m : ℕ) → mark v.marks (cell_no i) ≡ m → HasCycle cells ⊎ Visited (i + 1)
+      go : (m : ℕ) → progress v.marks (cell_no i) ≡ m → HasCycle cells ⊎ Visited (i + 1)
       go zero e =
           let end : ℕ = length v.order - 1 in
           let begun = under_begins end (cell_no i) now is e (omega (arith, place_free now (cell_no i) is e)) in
-          after (search (left cells (set v.marks i 1) 1) (omega arith) begun)
+          after (search (left cells (set v.marks i Open) 1) (omega arith) begun)
       go (suc m) e = inr (further (record { searching = now; seen = omega (arith, e); still = λ y h. h }))
 
   -- k are left
@@ -134,54 +134,57 @@ module _ {cells : List Cell} (closed : Closed cells) where
     long : length nothing ≡ length cells
     long = length-replicate {A = ℕ} (length cells) 0
 
-    lent : WorkRoom cells nothing nothing
-    lent = record { few = few; wide = omega (arith, long); deep = omega (arith, long) }
+    abbrev unmarked : List Mark
+    unmarked = replicate (length cells) New
+
+    lent : WorkRoom cells unmarked nothing
+    lent = record { few = few; wide = omega (arith, length-replicate {A = Mark} (length cells) New); deep = omega (arith, long) }
 
     cycle_or_order : HasCycle cells ⊎ HasOrder
     cycle_or_order =
-        let first : Upto cells nothing nothing 0 0 = record { searching = begins lent (blank (length cells)); seen = λ k h. absurd (omega arith) } in
-        place (length cells) 0 (omega arith) (record { marks = nothing; order = nothing; count = 0; upto = first })
+        let first : Upto cells unmarked nothing 0 0 = record { searching = begins lent (new_marks (length cells)); seen = λ k h. absurd (omega arith) } in
+        place (length cells) 0 (omega arith) (record { marks = unmarked; order = nothing; count = 0; upto = first })
 
   -- Whether a cell reaches itself: y is noted, and all that x needs is.
-  record Noting (marks stack : List ℕ) (top : ℕ) (y : CellNo) : Type 0 where
-    marks' : List ℕ
+  record Noting (marks : List Mark) (stack : List ℕ) (top : ℕ) (y : CellNo) : Type 0 where
+    marks' : List Mark
     stack' : List ℕ
     top' : ℕ
     noted : Noted marks stack top y marks' stack' top'
 
-  note : (marks stack : List ℕ) (top : ℕ) (y : CellNo) → Noting marks stack top y
-  note marks stack top y = go (mark marks y) refl
+  note : (marks : List Mark) (stack : List ℕ) (top : ℕ) (y : CellNo) → Noting marks stack top y
+  note marks stack top y = go (progress marks y) refl
     where
-      go : (m : ℕ) → mark marks y ≡ m → Noting marks stack top y
-      go zero e = record { marks' = set marks (of_cell y) 1; stack' = set stack top (of_cell y); top' = top + 1; noted = new e }
+      go : (m : ℕ) → progress marks y ≡ m → Noting marks stack top y
+      go zero e = record { marks' = set marks (of_cell y) Open; stack' = set stack top (of_cell y); top' = top + 1; noted = new e }
       go (suc m) e = record { marks' = marks; stack' = stack; top' = top; noted = old (omega (arith, e)) }
 
-  record Expanding (marks stack : List ℕ) (top : ℕ) (x : CellNo) : Type 0 where
-    marks' : List ℕ
+  record Expanding (marks : List Mark) (stack : List ℕ) (top : ℕ) (x : CellNo) : Type 0 where
+    marks' : List Mark
     stack' : List ℕ
     top' : ℕ
     expanded : Expanded cells marks stack top x marks' stack' top'
 
-  expand : (marks stack : List ℕ) (top : ℕ) (x : CellNo) → WorkRoom cells marks stack → Expanding marks stack top x
+  expand : (marks : List Mark) (stack : List ℕ) (top : ℕ) (x : CellNo) → WorkRoom cells marks stack → Expanding marks stack top x
   expand marks stack top x room = go (pins_of (cell_at cells x)) refl
     where
-      go : (p : Pins) → pins_of (cell_at cells x) ≡ p → Expanding marks stack top x
+      go : (p : Option (CellNo × CellNo)) → pins_of (cell_at cells x) ≡ p → Expanding marks stack top x
       go None e = record { marks' = marks; stack' = stack; top' = top; expanded = expand_none x e }
-      go (Two a b) e =
+      go (Some (a, b)) e =
           let p = note marks stack top a in
           let q = note p.marks' p.stack' p.top' b in
           record { marks' = q.marks'; stack' = q.stack'; top' = q.top'; expanded = expand_both closed room e p.noted q.noted }
 
   -- nothing waits: what is seen is what the cell reaches
-  decided : {marks stack : List ℕ} {top : ℕ} {c : CellNo} → Between cells c marks stack top → top ≡ 0 → Dec (OnCycle cells c)
-  decided {marks} {stack} {top} {c} b e = go (mark marks c) refl
+  decided : {marks : List Mark} {stack : List ℕ} {top : ℕ} {c : CellNo} → Between cells c marks stack top → top ≡ 0 → Dec (OnCycle cells c)
+  decided {marks} {stack} {top} {c} b e = go (progress marks c) refl
     where
-      go : (m : ℕ) → mark marks c ≡ m → Dec (OnCycle cells c)
+      go : (m : ℕ) → progress marks c ≡ m → Dec (OnCycle cells c)
       go zero is = no (λ on. omega (arith, is, all_seen (subst (Between cells c marks stack) e b) on))
       go (suc m) is = yes (b.hunting.sound c (omega (arith, is)))
 
-  module _ {marks stack : List ℕ} {top : ℕ} {c : CellNo} (b : Between cells c marks stack top)
-      (on : (marks' stack' : List ℕ) (top' : ℕ) → top' + zeros (length cells) marks' < top + zeros (length cells) marks → Between cells c marks' stack' top'
+  module _ {marks : List Mark} {stack : List ℕ} {top : ℕ} {c : CellNo} (b : Between cells c marks stack top)
+      (on : (marks' : List Mark) (stack' : List ℕ) (top' : ℕ) → top' + unmet (length cells) marks' < top + unmet (length cells) marks → Between cells c marks' stack' top'
       → Dec (OnCycle cells c)) where
     take_one : Dec (0 < top) → Dec (OnCycle cells c)
     take_one (no none) = decided b (omega arith)
@@ -190,7 +193,7 @@ module _ {cells : List Cell} (closed : Closed cells) where
         let e = expand marks stack (top - 1) x b.hunting.lent in
         on e.marks' e.stack' e.top' (omega (arith, e.expanded.even)) (goes_on x b some refl e.expanded)
 
-  hunt : (fuel : ℕ) {marks stack : List ℕ} {top : ℕ} {c : CellNo} → top + zeros (length cells) marks ≤ fuel
+  hunt : (fuel : ℕ) {marks : List Mark} {stack : List ℕ} {top : ℕ} {c : CellNo} → top + unmet (length cells) marks ≤ fuel
       → Between cells c marks stack top → Dec (OnCycle cells c)
   hunt zero few b = decided b (omega arith)
   hunt (suc fuel) {marks} {top = top} few b = take_one b (λ marks' stack' top' less next. hunt fuel (omega arith) next) (dec_lt 0 top)
@@ -198,8 +201,8 @@ module _ {cells : List Cell} (closed : Closed cells) where
   module _ (few : length cells ≤ 65536) where
     on_cycle : (c : CellNo) → Dec (OnCycle cells c)
     on_cycle c =
-        let e = expand (nothing few) (nothing few) 0 c (lent few) in
-        hunt (e.top' + zeros (length cells) e.marks') (omega arith) (between_begins c (lent few) (blank (length cells)) e.expanded)
+        let e = expand (unmarked few) (nothing few) 0 c (lent few) in
+        hunt (e.top' + unmet (length cells) e.marks') (omega arith) (between_begins c (lent few) (new_marks (length cells)) e.expanded)
 
     record HasLowest : Type 0 where
       cell : CellNo
@@ -217,7 +220,7 @@ module _ {cells : List Cell} (closed : Closed cells) where
 -- an answer that satisfies the description
 pub record Answered (cells : List Cell) : Type 0 where
   pub order : List ℕ
-  pub answer : Ordering
+  pub answer : Result (Unit {0}) Cycle
   pub is : Answers cells order answer
 
 -- There is one for all cells whose operands are cells.
@@ -227,8 +230,8 @@ answered {cells} closed few = go (cycle_or_order closed few)
     go : HasCycle cells ⊎ HasOrder closed → Answered cells
     go (inl cycle) =
         let l = lowest_from closed few (length cells) 0 (omega arith) (record { free = λ k h. absurd (omega arith) }) cycle in
-        record { order = nothing closed few; answer = Cycle l.cell; is = answers_cycle l.lowest }
-    go (inr o) = record { order = o.order; answer = Found; is = answers_found o.ordered }
+        record { order = nothing closed few; answer = Err (record { lowest = l.cell }); is = answers_cycle l.lowest }
+    go (inr o) = record { order = o.order; answer = Ok tt; is = answers_found o.ordered }
 
 -- And where no cell reaches itself it is an order.
 pub acyclic_ordered : {cells : List Cell} (a : Answered cells) → ((x : CellNo) → OnCycle cells x → ⊥) → Ordered cells a.order

@@ -12,15 +12,17 @@ use Rattle.number.specs.Counts.{cell_no, of_cell}
 use Rattle.number.specs.declared.CellNo.{CellNo}
 use Rattle.cells.specs.declared.Cell.{Cell}
 use Rattle.cells.specs.Cells.{cell_at}
-use Rattle.cells.specs.declared.Pins.TheVariants.{None, Two}
 use Rattle.cells.specs.Needs.{IsCell, pins_of, Needs, Closed}
 use Rattle.cells.proofs.Needing.{needs_cell, needs_as, needs_first, needs_second, needs_only, needs_none}
 use Rattle.order.specs.Paths.{Reaches, one, more, OnCycle, placed}
-use Rattle.order.specs.Search.{WorkRoom, mark, IsBlank, Seen, HasPlace, zeros, HasCycle, Hunting, Noted, old, new, Expanded}
-use Rattle.order.proofs.Columns.{same, mark_same, mark_other, still_seen, placed_same, placed_other, still_stands, zeros_new, zeros_all, still_lent}
+use Rattle.order.specs.declared.Mark.{Mark}
+use Rattle.order.specs.declared.Mark.TheVariants.{Open}
+use Rattle.order.specs.Search.{WorkRoom, progress, IsUnmarked, Seen, HasPlace, unmet, HasCycle, Hunting, Noted, old, new, Expanded}
+use Rattle.order.proofs.Columns.{same, progress_same, progress_other, still_seen, placed_same, placed_other, still_stands, unmet_new, unmet_all, still_lent}
+use Rattle.std.specs.Prelude.{Some, None}
 
 -- Nothing is marked.
-hunt_begins : {cells : List Cell} {marks stack : List ℕ} (c e : CellNo) → WorkRoom cells marks stack → IsBlank marks
+hunt_begins : {cells : List Cell} {marks : List Mark} {stack : List ℕ} (c e : CellNo) → WorkRoom cells marks stack → IsUnmarked marks
     → Hunting cells c marks stack 0 e
 hunt_begins {cells} {marks} c e l z =
     record {
@@ -28,53 +30,53 @@ hunt_begins {cells} {marks} c e l z =
       closed = λ x y h. absurd (omega (arith, z (of_cell x)));
       waits = λ j h. absurd (omega arith);
       within = λ x h. absurd (omega (arith, z (of_cell x)));
-      room = omega (arith, zeros_all (length cells) marks l.wide z);
+      room = omega (arith, unmet_all (length cells) marks l.wide z);
       lent = l;
     }
 
 -- There is room on the stack for a cell that is new.
-pub note_room : {cells : List Cell} {marks stack : List ℕ} {top : ℕ} (y : CellNo) → WorkRoom cells marks stack
-    → top + zeros (length cells) marks ≤ length cells
-    → IsCell cells y → mark marks y ≡ 0 → top < length stack
+pub note_room : {cells : List Cell} {marks : List Mark} {stack : List ℕ} {top : ℕ} (y : CellNo) → WorkRoom cells marks stack
+    → top + unmet (length cells) marks ≤ length cells
+    → IsCell cells y → progress marks y ≡ 0 → top < length stack
 note_room {cells} {marks} y l room is fresh =
-    omega (arith, zeros_new (length cells) marks (of_cell y) 0 is (omega (arith, l.wide)) fresh, l.deep)
+    omega (arith, unmet_new (length cells) marks (of_cell y) Open (omega arith) is (omega (arith, l.wide)) fresh, l.deep)
 
 -- What noting a cell y leaves as it was, and what it changes.
-noted_still : {marks stack marks' stack' : List ℕ} {top top' : ℕ} {y : CellNo} → of_cell y < length marks
+noted_still : {marks : List Mark} {stack : List ℕ} {marks' : List Mark} {stack' : List ℕ} {top top' : ℕ} {y : CellNo} → of_cell y < length marks
     → Noted marks stack top y marks' stack' top'
     → (x : CellNo) → Seen marks x → Seen marks' x
 noted_still h (old seen) x s = s
-noted_still {marks} {y = y} h (new e) x s = still_seen marks y x 0 h s
+noted_still {marks} {y = y} h (new e) x s = still_seen marks y x Open (omega arith) h s
 
-noted_seen : {marks stack marks' stack' : List ℕ} {top top' : ℕ} {y : CellNo} → of_cell y < length marks → Noted marks stack top y marks' stack' top'
+noted_seen : {marks : List Mark} {stack : List ℕ} {marks' : List Mark} {stack' : List ℕ} {top top' : ℕ} {y : CellNo} → of_cell y < length marks → Noted marks stack top y marks' stack' top'
     → Seen marks' y
 noted_seen h (old seen) = seen
-noted_seen {marks} {y = y} h (new e) = omega (arith, mark_same marks y 1 h)
+noted_seen {marks} {y = y} h (new e) = omega (arith, progress_same marks y Open h)
 
-pub noted_lent : {cells : List Cell} {marks stack marks' stack' : List ℕ} {top top' : ℕ} {y : CellNo} → WorkRoom cells marks stack
+pub noted_lent : {cells : List Cell} {marks : List Mark} {stack : List ℕ} {marks' : List Mark} {stack' : List ℕ} {top top' : ℕ} {y : CellNo} → WorkRoom cells marks stack
     → Noted marks stack top y marks' stack' top' → WorkRoom cells marks' stack'
 noted_lent l (old seen) = l
-noted_lent {marks = marks} {stack} {top = top} {y = y} l (new e) = still_lent l (length-set marks (of_cell y) 1) (length-set stack top (of_cell y))
+noted_lent {marks = marks} {stack} {top = top} {y = y} l (new e) = still_lent l (length-set marks (of_cell y) Open) (length-set stack top (of_cell y))
 
-pub noted_even : {cells : List Cell} {marks stack marks' stack' : List ℕ} {top top' : ℕ} {y : CellNo} → WorkRoom cells marks stack → IsCell cells y
-    → Noted marks stack top y marks' stack' top' → top' + zeros (length cells) marks' ≡ top + zeros (length cells) marks
+pub noted_even : {cells : List Cell} {marks : List Mark} {stack : List ℕ} {marks' : List Mark} {stack' : List ℕ} {top top' : ℕ} {y : CellNo} → WorkRoom cells marks stack → IsCell cells y
+    → Noted marks stack top y marks' stack' top' → top' + unmet (length cells) marks' ≡ top + unmet (length cells) marks
 noted_even l is (old seen) = refl
 noted_even {cells} {marks} {y = y} l is (new e) =
-    omega (arith, zeros_new (length cells) marks (of_cell y) 0 is (omega (arith, l.wide)) e)
+    omega (arith, unmet_new (length cells) marks (of_cell y) Open (omega arith) is (omega (arith, l.wide)) e)
 
 -- A new cell y that c reaches is marked and waits.
-module _ {cells : List Cell} {marks stack : List ℕ} {c e : CellNo} {top : ℕ} (h : Hunting cells c marks stack top e) (y : CellNo)
-    (is : IsCell cells y) (fresh : mark marks y ≡ 0) (way : Reaches cells c y) where
+module _ {cells : List Cell} {marks : List Mark} {stack : List ℕ} {c e : CellNo} {top : ℕ} (h : Hunting cells c marks stack top e) (y : CellNo)
+    (is : IsCell cells y) (fresh : progress marks y ≡ 0) (way : Reaches cells c y) where
   in_marks : of_cell y < length marks
   in_marks = omega (arith, h.lent.wide)
 
   in_stack : top < length stack
   in_stack = note_room y h.lent h.room is fresh
 
-  one_less : suc (zeros (length cells) (set marks (of_cell y) 1)) ≡ zeros (length cells) marks
-  one_less = zeros_new (length cells) marks (of_cell y) 0 is in_marks fresh
+  one_less : suc (unmet (length cells) (set marks (of_cell y) Open)) ≡ unmet (length cells) marks
+  one_less = unmet_new (length cells) marks (of_cell y) Open (omega arith) is in_marks fresh
 
-  hunts_new : Hunting cells c (set marks (of_cell y) 1) (set stack top (of_cell y)) (top + 1) e
+  hunts_new : Hunting cells c (set marks (of_cell y) Open) (set stack top (of_cell y)) (top + 1) e
   hunts_new =
       record {
         sound = each (Reaches cells c) way h.sound;
@@ -82,17 +84,17 @@ module _ {cells : List Cell} {marks stack : List ℕ} {c e : CellNo} {top : ℕ}
         waits = waits;
         within = each (IsCell cells) is h.within;
         room = omega (arith, one_less, h.room);
-        lent = still_lent h.lent (length-set marks (of_cell y) 1) (length-set stack top (of_cell y));
+        lent = still_lent h.lent (length-set marks (of_cell y) Open) (length-set stack top (of_cell y));
       }
     where
-      marks' : List ℕ
-      marks' = set marks (of_cell y) 1
+      marks' : List Mark
+      marks' = set marks (of_cell y) Open
 
       stack' : List ℕ
       stack' = set stack top (of_cell y)
 
       kept : (x : CellNo) → Seen marks x → Seen marks' x
-      kept x s = still_seen marks y x 0 in_marks s
+      kept x s = still_seen marks y x Open (omega arith) in_marks s
 
       -- what is seen is y, or was seen before
       each : (P : CellNo → Type 0) → P y → ((x : CellNo) → Seen marks x → P x) → (x : CellNo) → Seen marks' x → P x
@@ -100,7 +102,7 @@ module _ {cells : List Cell} {marks stack : List ℕ} {c e : CellNo} {top : ℕ}
         where
           go : Dec (x ≡ y) → P x
           go (yes q) = subst⁻¹ P q at_y
-          go (no n) = before x (rw (mark_other marks y x 1 n) at s)
+          go (no n) = before x (rw (progress_other marks y x Open n) at s)
 
       new_one : (z : CellNo) → Needs cells y z → Seen marks' z ⊎ (HasPlace stack' (top + 1) y ⊎ (y ≡ e))
       new_one z needs = inr (inl (record { place = top; low = omega arith; is = placed_same stack top y in_stack }))
@@ -114,20 +116,20 @@ module _ {cells : List Cell} {marks stack : List ℕ} {c e : CellNo} {top : ℕ}
       waits j low = go (ℕ_discrete j top)
         where
           here : Seen marks' y
-          here = omega (arith, mark_same marks y 1 in_marks)
+          here = omega (arith, progress_same marks y Open in_marks)
 
           go : Dec (j ≡ top) → Seen marks' (placed stack' j)
           go (yes q) = subst⁻¹ (Seen marks') (ap (placed stack') q ∙ placed_same stack top y in_stack) here
           go (no n) = subst⁻¹ (Seen marks') (placed_other stack j top y n) (kept (placed stack j) (h.waits j (omega arith)))
 
-noted_hunting : {cells : List Cell} {marks stack marks' stack' : List ℕ} {c e : CellNo} {top top' : ℕ} {y : CellNo}
+noted_hunting : {cells : List Cell} {marks : List Mark} {stack : List ℕ} {marks' : List Mark} {stack' : List ℕ} {c e : CellNo} {top top' : ℕ} {y : CellNo}
     → Hunting cells c marks stack top e
     → IsCell cells y → Reaches cells c y → Noted marks stack top y marks' stack' top' → Hunting cells c marks' stack' top' e
 noted_hunting h is way (old seen) = h
 noted_hunting {y = y} h is way (new fresh) = hunts_new h y is fresh way
 
 -- All that x needs is seen: x is no exception any more.
-no_exception : {cells : List Cell} {marks stack : List ℕ} {c x : CellNo} {top : ℕ} → Hunting cells c marks stack top x
+no_exception : {cells : List Cell} {marks : List Mark} {stack : List ℕ} {c x : CellNo} {top : ℕ} → Hunting cells c marks stack top x
     → ((y : CellNo) → Needs cells x y → Seen marks y) → Hunting cells c marks stack top (cell_no (length cells))
 no_exception {cells} {marks} {stack} {c} {x} {top} h all =
     record { sound = h.sound; closed = closed; waits = h.waits; within = h.within; room = h.room; lent = h.lent }
@@ -136,15 +138,15 @@ no_exception {cells} {marks} {stack} {c} {x} {top} h all =
     closed w y s needs =
         ⊎_elim (λ t. inl t) (⊎_elim (λ t. inr (inl t)) (λ q. inl (all y (needs_as (sym q) refl needs)))) (h.closed w y s needs)
 
-pub expand_none : {cells : List Cell} {marks stack : List ℕ} {top : ℕ} (x : CellNo) → pins_of (cell_at cells x) ≡ None
+pub expand_none : {cells : List Cell} {marks : List Mark} {stack : List ℕ} {top : ℕ} (x : CellNo) → pins_of (cell_at cells x) ≡ None
     → Expanded cells marks stack top x marks stack top
 expand_none {cells} {marks} x pins = record { hunting = λ c h way. no_exception h all; needs = all; still = λ y s. s; even = refl }
   where
     all : (y : CellNo) → Needs cells x y → Seen marks y
     all y needs = absurd (needs_none pins needs)
 
-pub expand_both : {cells : List Cell} {marks marks₁ marks₂ stack stack₁ stack₂ : List ℕ} {top top₁ top₂ : ℕ} {x a b : CellNo} → Closed cells
-    → WorkRoom cells marks stack → pins_of (cell_at cells x) ≡ Two a b → Noted marks stack top a marks₁ stack₁ top₁
+pub expand_both : {cells : List Cell} {marks marks₁ marks₂ : List Mark} {stack stack₁ stack₂ : List ℕ} {top top₁ top₂ : ℕ} {x a b : CellNo} → Closed cells
+    → WorkRoom cells marks stack → pins_of (cell_at cells x) ≡ Some (a, b) → Noted marks stack top a marks₁ stack₁ top₁
     → Noted marks₁ stack₁ top₁ b marks₂ stack₂ top₂ → Expanded cells marks stack top x marks₂ stack₂ top₂
 expand_both {cells} {marks} {marks₁} {marks₂} {stack} {stack₁} {stack₂} {top} {top₁} {top₂} {x} {a} {b} closed l pins p q =
     record {
@@ -177,11 +179,11 @@ expand_both {cells} {marks} {marks₁} {marks₂} {stack} {stack₁} {stack₂} 
     both c h way = noted_hunting (noted_hunting h is_a (way a (needs_first pins)) p) is_b (way b (needs_second pins)) q
 
 -- Between two cells: all that c needs is seen, and no cell is an exception.
-pub record Between (cells : List Cell) (c : CellNo) (marks stack : List ℕ) (top : ℕ) : Type 0 where
+pub record Between (cells : List Cell) (c : CellNo) (marks : List Mark) (stack : List ℕ) (top : ℕ) : Type 0 where
   pub hunting : Hunting cells c marks stack top (cell_no (length cells))
   pub first : (y : CellNo) → Needs cells c y → Seen marks y
 
-pub between_begins : {cells : List Cell} {marks marks' stack stack' : List ℕ} {top : ℕ} (c : CellNo) → WorkRoom cells marks stack → IsBlank marks
+pub between_begins : {cells : List Cell} {marks marks' : List Mark} {stack stack' : List ℕ} {top : ℕ} (c : CellNo) → WorkRoom cells marks stack → IsUnmarked marks
     → Expanded cells marks stack 0 c marks' stack' top → Between cells c marks' stack' top
 between_begins c l z ex = record { hunting = ex.hunting c (hunt_begins c c l z) (λ y needs. one needs); first = ex.needs }
 
@@ -190,13 +192,13 @@ join (one h) needs = more h (one needs)
 join (more h way) needs = more h (join way needs)
 
 -- what is seen and does not wait has all that it needs seen
-settled : {cells : List Cell} {marks stack : List ℕ} {c : CellNo} {top : ℕ} → Between cells c marks stack top → (x y : CellNo) → Seen marks x
+settled : {cells : List Cell} {marks : List Mark} {stack : List ℕ} {c : CellNo} {top : ℕ} → Between cells c marks stack top → (x y : CellNo) → Seen marks x
     → Needs cells x y → Seen marks y ⊎ HasPlace stack top x
 settled b x y s needs =
     ⊎_elim (λ t. inl t) (⊎_elim (λ t. inr t) (λ e. absurd (omega (arith, b.hunting.within x s, ap of_cell e)))) (b.hunting.closed x y s needs)
 
 -- The cell on top is taken from the stack.
-module _ {cells : List Cell} {marks stack : List ℕ} {c : CellNo} {top : ℕ} (b : Between cells c marks stack top) (x : CellNo) (some : 0 < top)
+module _ {cells : List Cell} {marks : List Mark} {stack : List ℕ} {c : CellNo} {top : ℕ} (b : Between cells c marks stack top) (x : CellNo) (some : 0 < top)
     (last : placed stack (top - 1) ≡ x) where
   taken_seen : Seen marks x
   taken_seen = subst (Seen marks) last (b.hunting.waits (top - 1) (omega arith))
@@ -222,7 +224,7 @@ module _ {cells : List Cell} {marks stack : List ℕ} {c : CellNo} {top : ℕ} (
           go t (yes e) = inr (sym t.is ∙ ap (placed stack) e ∙ last)
           go t (no n) = inl (record { place = t.place; low = omega (arith, t.low); is = t.is })
 
-pub goes_on : {cells : List Cell} {marks marks' stack stack' : List ℕ} {c : CellNo} {top top' : ℕ} (x : CellNo)
+pub goes_on : {cells : List Cell} {marks marks' : List Mark} {stack stack' : List ℕ} {c : CellNo} {top top' : ℕ} (x : CellNo)
     → Between cells c marks stack top → 0 < top
     → placed stack (top - 1) ≡ x → Expanded cells marks stack (top - 1) x marks' stack' top' → Between cells c marks' stack' top'
 goes_on {c = c} x b some last ex =
@@ -232,7 +234,7 @@ goes_on {c = c} x b some last ex =
     }
 
 -- Nothing waits: all that c reaches is seen.
-module _ {cells : List Cell} {marks stack : List ℕ} {c : CellNo} (b : Between cells c marks stack 0) where
+module _ {cells : List Cell} {marks : List Mark} {stack : List ℕ} {c : CellNo} (b : Between cells c marks stack 0) where
   follow : {x z : CellNo} → Seen marks x → Reaches cells x z → Seen marks z
   follow {x} {z} s (one needs) = ⊎_elim (λ t. t) (λ t. absurd (omega (arith, t.low))) (settled b x z s needs)
   follow {x} {z} s (more {y = y} needs way) =

@@ -9,9 +9,9 @@ use Rattle.number.specs.declared.CellNo.{CellNo}
 use Rattle.cells.specs.declared.Cell.{Cell}
 use Rattle.cells.specs.Needs.{IsCell}
 use Rattle.cells.proofs.Needing.{needs_cell, needs_as}
-use Rattle.order.specs.declared.Ordering.{Ordering}
-use Rattle.order.specs.declared.Ordering.TheVariants.{Found, Cycle}
 use Rattle.order.specs.Paths.{Reaches, one, more, OnCycle, Lowest, placed, Ordered, Answers}
+use Rattle.order.specs.declared.Cycle.{Cycle}
+use Rattle.std.specs.Prelude.{Result, Ok, Err}
 
 reaches_cell : {cells : List Cell} {x y : CellNo} → Reaches cells x y → IsCell cells x
 reaches_cell (one h) = needs_cell h
@@ -41,24 +41,25 @@ lowest_unique {cells} {x} {y} a b =
     ap cell_no e
 
 -- the two answers
-pub answers_found : {cells : List Cell} {order : List ℕ} → Ordered cells order → Answers cells order Found
+pub answers_found : {cells : List Cell} {order : List ℕ} → Ordered cells order → Answers cells order (Ok tt)
 answers_found o = record { found = λ e. o; cycle = λ x e. let z : ◌≡◌ {A = ℕ} 0 1 = cc in absurd (omega arith) }
 
-pub answers_cycle : {cells : List Cell} {order : List ℕ} {x : CellNo} → Lowest cells x → Answers cells order (Cycle x)
-answers_cycle {cells} {order} {x} l =
+pub answers_cycle : {cells : List Cell} {order : List ℕ} {c : Cycle} → Lowest cells c.lowest → Answers cells order (Err c)
+answers_cycle {cells} {order} {c} l =
     record {
       found = λ e. let z : ◌≡◌ {A = ℕ} 0 1 = cc in absurd (omega arith);
-      cycle = λ y e. let same : x ≡ y = cc in subst (Lowest cells) same l;
+      cycle = λ d e. let same : c ≡ d = cc in subst (λ (d : Cycle). Lowest cells d.lowest) same l;
     }
 
 -- two answers that satisfy the description are equal
-pub answer_unique : {cells : List Cell} {order order' : List ℕ} (r r' : Ordering) → Answers cells order r → Answers cells order' r' → r ≡ r'
-answer_unique Found Found a b = refl
-answer_unique Found (Cycle y) a b = absurd (ordered_acyclic (a.found refl) y (b.cycle y refl).on)
-answer_unique (Cycle x) Found a b = absurd (ordered_acyclic (b.found refl) x (a.cycle x refl).on)
-answer_unique (Cycle x) (Cycle y) a b = ap Cycle (lowest_unique (a.cycle x refl) (b.cycle y refl))
+pub answer_unique : {cells : List Cell} {order order' : List ℕ} (r r' : Result (Unit {0}) Cycle) → Answers cells order r → Answers cells order' r' → r ≡ r'
+answer_unique (Ok _) (Ok _) a b = refl
+answer_unique (Ok _) (Err d) a b = absurd (ordered_acyclic (a.found refl) d.lowest (b.cycle d refl).on)
+answer_unique (Err c) (Ok _) a b = absurd (ordered_acyclic (b.found refl) c.lowest (a.cycle c refl).on)
+answer_unique (Err c) (Err d) a b =
+    ap (λ (x : CellNo). Err (record { lowest = x })) (lowest_unique (a.cycle c refl) (b.cycle d refl))
 
 -- where no cell reaches itself an order is found
-pub answer_found : {cells : List Cell} {order : List ℕ} (r : Ordering) → Answers cells order r → ((x : CellNo) → OnCycle cells x → ⊥) → r ≡ Found
-answer_found Found a free = refl
-answer_found (Cycle x) a free = absurd (free x (a.cycle x refl).on)
+pub answer_found : {cells : List Cell} {order : List ℕ} (r : Result (Unit {0}) Cycle) → Answers cells order r → ((x : CellNo) → OnCycle cells x → ⊥) → r ≡ Ok tt
+answer_found (Ok _) a free = refl
+answer_found (Err c) a free = absurd (free c.lowest (a.cycle c refl).on)

@@ -1,13 +1,12 @@
 -- "CYCLE through cells other than registers", at the "lowest cell on one": which cells a cell reaches by those that it needs in the same clock, and what an
 -- order of the cells is.
-use Rattle.std.specs.Prelude.{◌≡◌, List, ℕ, ◌<◌, ◌≤◌, length, get_or}
+use Rattle.std.specs.Prelude.{◌≡◌, List, ℕ, ◌<◌, ◌≤◌, length, get_or, Result, Ok, Err}
 use Rattle.number.specs.Counts.{cell_no, of_cell}
 use Rattle.number.specs.declared.CellNo.{CellNo}
 use Rattle.limits.specs.Limits.{max_cells}
 use Rattle.cells.specs.declared.Cell.{Cell}
 use Rattle.cells.specs.Needs.{IsCell, Needs, Closed}
-use Rattle.order.specs.declared.Ordering.{Ordering}
-use Rattle.order.specs.declared.Ordering.TheVariants.{Found, Cycle}
+use Rattle.order.specs.declared.Cycle.{Cycle}
 
 -- a way from x to z, of one step or more
 pub data Reaches (cells : List Cell) : CellNo → CellNo → Type 0 where
@@ -41,6 +40,6 @@ pub record Ordered (cells : List Cell) (order : List ℕ) : Type 0 where
   pub after : (j : ℕ) (y : CellNo) → j < length cells → Needs cells (placed order j) y → (i : ℕ) × (i < j) × (placed order i ≡ y)
 
 -- what is answered: an order, or the lowest cell on a cycle. Where there are several orders any will do.
-pub record Answers (cells : List Cell) (order : List ℕ) (r : Ordering) : Type 0 where
-  pub found : r ≡ Found → Ordered cells order
-  pub cycle : (x : CellNo) → r ≡ Cycle x → Lowest cells x
+pub record Answers (cells : List Cell) (order : List ℕ) (r : Result (Unit {0}) Cycle) : Type 0 where
+  pub found : r ≡ Ok tt → Ordered cells order
+  pub cycle : (c : Cycle) → r ≡ Err c → Lowest cells c.lowest

@@ -1,42 +1,45 @@
 -- Not to be believed: what the code keeps to; the proofs check it.
 -- What the functions behind `order_cells` keep to while they search. Only their contracts cite it: what `order_cells` promises stands in `Paths`.
-use Rattle.std.specs.Prelude.{◌≡◌, Bool, true, false, List, [], ◌∷◌, ◌⊎◌, ℕ, suc, zero, ◌+◌, ◌-◌, ◌*◌, ◌<◌, ◌≤◌, length, get_or, set}
+use Rattle.std.specs.Prelude.{◌≡◌, Bool, true, false, List, [], ◌∷◌, ◌⊎◌, ℕ, suc, zero, ◌+◌, ◌-◌, ◌*◌, ◌<◌, ◌≤◌, length, get_or, set, Option, Some, None}
 use Rattle.number.specs.Counts.{cell_no, of_cell}
 use Rattle.number.specs.declared.CellNo.{CellNo}
 use Rattle.cells.specs.declared.Cell.{Cell}
 use Rattle.cells.specs.Needs.{IsCell, Needs}
 use Rattle.order.specs.declared.Next.{Next}
-use Rattle.order.specs.declared.Next.TheVariants.{New, Open, Clear}
-use Rattle.order.specs.declared.Step.{Step}
-use Rattle.order.specs.declared.Step.TheVariants.{On, Back}
-use Rattle.order.specs.declared.Visit.{Visit}
-use Rattle.order.specs.declared.Visit.TheVariants.{Placed, Cyclic}
+use Rattle.order.specs.declared.Next.TheVariants.{Fresh, Back, Clear}
+use Rattle.order.specs.declared.Mark.{Mark}
+use Rattle.order.specs.declared.Mark.TheVariants.{New, Open, Placed}
 use Rattle.order.specs.Paths.{Reaches, OnCycle, placed, Ordered}
 
 -- the work columns have an entry for each cell, whose number sixteen bits hold
-pub record WorkRoom (cells : List Cell) (marks stack : List ℕ) : Type 0 where
+pub record WorkRoom (cells : List Cell) (marks : List Mark) (stack : List ℕ) : Type 0 where
   pub few : length cells ≤ 65536
   pub wide : length cells ≤ length marks
   pub deep : length cells ≤ length stack
 
--- the mark of a cell
-abbrev pub mark : List ℕ → CellNo → ℕ
-mark marks x = get_or marks (of_cell x) 0
+-- how far a search has come with a cell, as a number
+abbrev pub reached : Mark → ℕ
+reached New = 0
+reached Open = 1
+reached Placed = 2
+
+abbrev pub progress : List Mark → CellNo → ℕ
+progress marks x = reached (get_or marks (of_cell x) New)
 
 -- no cell is marked
-abbrev pub IsBlank : List ℕ → Type 0
-IsBlank marks = (i : ℕ) → get_or marks i 0 ≡ 0
+abbrev pub IsUnmarked : List Mark → Type 0
+IsUnmarked marks = (i : ℕ) → reached (get_or marks i New) ≡ 0
 
 -- a cell that a search has met
-abbrev pub Seen : List ℕ → CellNo → Type 0
-Seen marks x = 0 < mark marks x
+abbrev pub Seen : List Mark → CellNo → Type 0
+Seen marks x = 0 < progress marks x
 
--- in the search for an order a cell is open, with mark 1, while what it needs is looked at, and done after that
-abbrev pub IsOpen : List ℕ → CellNo → Type 0
-IsOpen marks x = mark marks x ≡ 1
+-- in the search for an order a cell is open while what it needs is looked at, and done after that
+abbrev pub IsOpen : List Mark → CellNo → Type 0
+IsOpen marks x = progress marks x ≡ 1
 
-abbrev pub IsDone : List ℕ → CellNo → Type 0
-IsDone marks x = 1 < mark marks x
+abbrev pub IsDone : List Mark → CellNo → Type 0
+IsDone marks x = 1 < progress marks x
 
 -- x has a place among the first n
 pub record HasPlace (column : List ℕ) (n : ℕ) (x : CellNo) : Type 0 where
@@ -44,12 +47,11 @@ pub record HasPlace (column : List ℕ) (n : ℕ) (x : CellNo) : Type 0 where
   pub low : place < n
   pub is : placed column place ≡ x
 
--- how many of the first n marks are 0
-unfoldable pub zeros : ℕ → List ℕ → ℕ
-zeros zero marks = 0
-zeros (suc n) [] = 0
-zeros (suc n) (zero ∷ marks) = suc (zeros n marks)
-zeros (suc n) (suc m ∷ marks) = zeros n marks
+-- how many of the first n cells no search has met
+unfoldable pub unmet : ℕ → List Mark → ℕ
+unmet zero marks = 0
+unmet (suc n) [] = 0
+unmet (suc n) (m ∷ marks) = (1 - reached m) + unmet n marks
 
 -- the cell at depth k of the stack, from 1 on: in the search for an order the stack grows down from the end of the order's own column
 abbrev pub waiting : List ℕ → ℕ → CellNo
@@ -64,7 +66,7 @@ pub record Waits (order : List ℕ) (top : ℕ) (x : CellNo) : Type 0 where
 
 -- the search for an order: the open cells are those on the stack, each needed by the one below it; the done cells are those placed, each after what
 -- it needs; "placed and waiting cells are never more than all cells"
-pub record Searching (cells : List Cell) (marks order : List ℕ) (top count : ℕ) : Type 0 where
+pub record Searching (cells : List Cell) (marks : List Mark) (order : List ℕ) (top count : ℕ) : Type 0 where
   pub stacked : (x : CellNo) → IsOpen marks x → Waits order top x
   pub opened : (k : ℕ) → 0 < k → k ≤ top → IsOpen marks (waiting order k)
   pub apart : (i k : ℕ) → 0 < i → i < k → k ≤ top → waiting order i ≡ waiting order k → ⊥
@@ -74,13 +76,13 @@ pub record Searching (cells : List Cell) (marks order : List ℕ) (top count : �
   pub once : (i j : ℕ) → i < j → j < count → placed order i ≡ placed order j → ⊥
   pub after : (j : ℕ) (y : CellNo) → j < count → Needs cells (placed order j) y → HasPlace order j y
   pub within : (x : CellNo) → Seen marks x → IsCell cells x
-  pub room : count + (top + zeros (length cells) marks) ≡ length cells
+  pub room : count + (top + unmet (length cells) marks) ≡ length cells
   pub lent : WorkRoom cells marks order
 
 -- what is next for an open cell x: an operand that is new, one that is open, or x can be placed
-abbrev pub IsNext : List Cell → List ℕ → CellNo → Next → Type 0
-IsNext cells marks x (New y) = Needs cells x y × (mark marks y ≡ 0)
-IsNext cells marks x Open = (y : CellNo) × Needs cells x y × IsOpen marks y
+abbrev pub IsNext : List Cell → List Mark → CellNo → Next → Type 0
+IsNext cells marks x (Fresh y) = Needs cells x y × (progress marks y ≡ 0)
+IsNext cells marks x Back = (y : CellNo) × Needs cells x y × IsOpen marks y
 IsNext cells marks x Clear = (y : CellNo) → Needs cells x y → IsDone marks y
 
 -- a cell is on a cycle
@@ -88,58 +90,73 @@ abbrev pub HasCycle : List Cell → Type 0
 HasCycle cells = (x : CellNo) × OnCycle cells x
 
 -- what the search has left to do: a new cell is opened and placed, an open one is placed
-abbrev pub left : List Cell → List ℕ → ℕ → ℕ
-left cells marks top = 2 * zeros (length cells) marks + top
+abbrev pub left : List Cell → List Mark → ℕ → ℕ
+left cells marks top = 2 * unmet (length cells) marks + top
 
 -- the search has gone one step on
-pub record Went (cells : List Cell) (marks marks' order : List ℕ) (top top' count : ℕ) : Type 0 where
+pub record Went (cells : List Cell) (marks marks' : List Mark) (order : List ℕ) (top top' count : ℕ) : Type 0 where
   pub searching : Searching cells marks' order top' count
   pub less : left cells marks' top' < left cells marks top
   pub still : (x : CellNo) → Seen marks x → Seen marks' x
 
 -- one step, from the marks before to the columns after
-abbrev pub Stepped : List Cell → List ℕ → ℕ → List ℕ → List ℕ → Step → Type 0
-Stepped cells marks top marks' order (On top' count) = Went cells marks marks' order top top' count
-Stepped cells marks top marks' order Back = HasCycle cells
+abbrev pub Stepped : List Cell → List Mark → ℕ → List Mark → List ℕ → Option (ℕ × ℕ) → Type 0
+Stepped cells marks top marks' order (Some (top', count)) = Went cells marks marks' order top top' count
+Stepped cells marks top marks' order None = HasCycle cells
 
 -- a cell and all that it needs is placed
-pub record Through (cells : List Cell) (marks marks' order : List ℕ) (x : CellNo) (count : ℕ) : Type 0 where
+pub record Through (cells : List Cell) (marks marks' : List Mark) (order : List ℕ) (x : CellNo) (count : ℕ) : Type 0 where
   pub searching : Searching cells marks' order 0 count
   pub seen : Seen marks' x
   pub still : (y : CellNo) → Seen marks y → Seen marks' y
 
-abbrev pub Visited : List Cell → List ℕ → List ℕ → List ℕ → CellNo → Visit → Type 0
-Visited cells marks marks' order x (Placed count) = Through cells marks marks' order x count
-Visited cells marks marks' order x Cyclic = HasCycle cells
+abbrev pub Visited : List Cell → List Mark → List Mark → List ℕ → CellNo → Option ℕ → Type 0
+Visited cells marks marks' order x (Some count) = Through cells marks marks' order x count
+Visited cells marks marks' order x None = HasCycle cells
 
 -- the search has been through all cells
-abbrev pub AllVisited : List Cell → List ℕ → Visit → Type 0
-AllVisited cells order (Placed count) = Ordered cells order
-AllVisited cells order Cyclic = HasCycle cells
+abbrev pub AllVisited : List Cell → List ℕ → Option ℕ → Type 0
+AllVisited cells order (Some count) = Ordered cells order
+AllVisited cells order None = HasCycle cells
 
 -- the search for what the cell c reaches: all that is seen is reached, and what a seen cell needs is seen, unless that cell waits on the stack or is e
-pub record Hunting (cells : List Cell) (c : CellNo) (marks stack : List ℕ) (top : ℕ) (e : CellNo) : Type 0 where
+pub record Hunting (cells : List Cell) (c : CellNo) (marks : List Mark) (stack : List ℕ) (top : ℕ) (e : CellNo) : Type 0 where
   pub sound : (x : CellNo) → Seen marks x → Reaches cells c x
   pub closed : (x y : CellNo) → Seen marks x → Needs cells x y → Seen marks y ⊎ (HasPlace stack top x ⊎ (x ≡ e))
   pub waits : (j : ℕ) → j < top → Seen marks (placed stack j)
   pub within : (x : CellNo) → Seen marks x → IsCell cells x
-  pub room : top + zeros (length cells) marks ≤ length cells
+  pub room : top + unmet (length cells) marks ≤ length cells
   pub lent : WorkRoom cells marks stack
 
 -- y is noted: it was seen before, or it is marked and waits on the stack
-pub data Noted (marks stack : List ℕ) (top : ℕ) (y : CellNo) : List ℕ → List ℕ → ℕ → Type 0 where
+pub data Noted (marks : List Mark) (stack : List ℕ) (top : ℕ) (y : CellNo) : List Mark → List ℕ → ℕ → Type 0 where
   old : Seen marks y → Noted marks stack top y marks stack top
-  new : mark marks y ≡ 0 → Noted marks stack top y (set marks (of_cell y) 1) (set stack top (of_cell y)) (top + 1)
+  new : progress marks y ≡ 0 → Noted marks stack top y (set marks (of_cell y) Open) (set stack top (of_cell y)) (top + 1)
 
 -- all that x needs is seen now, so x is no exception any more: the number of no cell stands for none
-pub record Expanded (cells : List Cell) (marks stack : List ℕ) (top : ℕ) (x : CellNo) (marks' stack' : List ℕ) (top' : ℕ) : Type 0 where
+pub record Expanded (cells : List Cell) (marks : List Mark) (stack : List ℕ) (top : ℕ) (x : CellNo) (marks' : List Mark) (stack' : List ℕ) (top' : ℕ) : Type 0 where
   pub hunting : (c : CellNo) → Hunting cells c marks stack top x → ((y : CellNo) → Needs cells x y → Reaches cells c y)
       → Hunting cells c marks' stack' top' (cell_no (length cells))
   pub needs : (y : CellNo) → Needs cells x y → Seen marks' y
   pub still : (y : CellNo) → Seen marks y → Seen marks' y
-  pub even : top' + zeros (length cells) marks' ≡ top + zeros (length cells) marks
+  pub even : top' + unmet (length cells) marks' ≡ top + unmet (length cells) marks
 
--- the test r says whether P holds
+-- The crates above search with columns of numbers: the mark of a cell in such a column, where 0 says that it has none ..
+abbrev pub mark : List ℕ → CellNo → ℕ
+mark marks x = get_or marks (of_cell x) 0
+
+-- .. that no cell is marked ..
+abbrev pub IsBlank : List ℕ → Type 0
+IsBlank marks = (i : ℕ) → get_or marks i 0 ≡ 0
+
+-- .. how many of the first n marks are 0 ..
+unfoldable pub zeros : ℕ → List ℕ → ℕ
+zeros zero marks = 0
+zeros (suc n) [] = 0
+zeros (suc n) (zero ∷ marks) = suc (zeros n marks)
+zeros (suc n) (suc m ∷ marks) = zeros n marks
+
+-- .. and that the test r says whether P holds
 pub record Decides (P : Type 0) (r : Bool) : Type 0 where
   pub holds : r ≡ true → P
   pub fails : r ≡ false → P → ⊥

@@ -18,8 +18,6 @@ use Rattle.sets.proofs.Columns.{has_word}
 use Rattle.rules.specs.Rules.{Signals, Outcome}
 use Rattle.rules.specs.States.{react, next_state, fits}
 use Rattle.cells.specs.declared.Cell.{Cell}
-use Rattle.cells.specs.declared.Pins.{Pins}
-use Rattle.cells.specs.declared.Pins.TheVariants.{None, Two}
 use Rattle.cells.specs.Needs.{pins_of}
 use Rattle.builder.specs.Netlist.{sheet_netlist}
 use Rattle.order.proofs.ByTest.{every, in_order_at, ordered}
@@ -33,16 +31,18 @@ use Rattle.interpreter.proofs.Settling.{event_of}
 use Rattle.sheet_entries.specs.Sheets.{sheet_accepted}
 use Rattle.krankovel.specs.Promise.{Reacts, Clocks, ended, goes}
 use Rattle.krankovel.proofs.Entries.{does_fit}
+use Rattle.number.specs.declared.CellNo.{CellNo}
+use Rattle.std.specs.Prelude.{Option, Some, None}
 
 -- An order: the cells one after the other, again and again, each once its operands stand.
 unfoldable pub among : ℕ → List ℕ → Bool
 among x [] = false
 among x (y ∷ ys) = eqb x y || among x ys
 
-unfoldable pub stand : List ℕ → Pins → Bool
+unfoldable pub stand : List ℕ → Option (CellNo × CellNo) → Bool
 unfolding among
 stand done None = true
-stand done (Two a b) = among (of_cell a) done && among (of_cell b) done
+stand done (Some (a, b)) = among (of_cell a) done && among (of_cell b) done
 
 unfoldable pub pass : List Cell → ℕ → List ℕ → List ℕ
 unfolding among stand pick

@@ -1,10 +1,9 @@
 -- The table holds: of each row the sheet's outcome, the order of its cells, what fits, its runs and its file are computed, and the
 -- entries' laws do the rest.
-use mathlib.Core.Path.{◌≡◌, refl, sym, ◌∙◌, subst}
+use mathlib.Core.Path.{◌≡◌, refl, sym, ap, ◌∙◌, subst}
 use mathlib.Core.Bool.{Bool, true, ◌&&◌}
 use mathlib.Core.List.{List, [], ◌∷◌, map}
 use Prim.Native.Nat.{ℕ, ◌^◌, ◌<◌}
-use native.Mathlib.Omega.{arith}
 use lib.Dec.{ltb}
 use borrow.Author.Tests.{ltb-true}
 use Rattle.number.specs.declared.CellNo.{CellNo}
@@ -20,8 +19,6 @@ use Rattle.sheet.specs.Stmt.{leaf, size}
 use Rattle.sheet.specs.Read.{Sheet, SheetOutcome, sheet, faulty}
 use Rattle.rules.specs.States.{fits}
 use Rattle.builder.specs.Netlist.{sheet_netlist}
-use Rattle.order.specs.declared.Ordering.{Ordering}
-use Rattle.order.specs.declared.Ordering.TheVariants.{Found, Cycle}
 use Rattle.order.specs.Paths.{Lowest, Ordered, Answers as Ordering_is}
 use Rattle.order.proofs.Unique.{answers_found, answers_cycle}
 use Rattle.order.proofs.Cases.{p5_answer}
@@ -60,6 +57,8 @@ use Rattle.agreement.specs.Rounds.{rounds}
 use Rattle.paper.specs.Cases.{Fit, Run, Case, All, none, more, FileRuns, RunHolds, FileHolds, FitHolds, Holds, cases, p1, p2}
 use Rattle.paper.specs.Cases.{p3, p4, p4_second, p5, p6, p6_second, p7, p7_second, p8, p9, p10, p11, p12, traced, guarded, branches}
 use Rattle.paper.proofs.Computing.{is_ordered, accepted_by, emissions_of, outputs_of, next_of, Computed, computed, clocks_computed}
+use Rattle.order.specs.declared.Cycle.{Cycle}
+use Rattle.std.specs.Prelude.{Result, Ok, Err}
 
 -- what is checked
 module _ {s : List ℕ} {o : SheetOutcome} (ok : Checks s o) where
@@ -236,7 +235,7 @@ accepted_row k judged in_order checked states may_run runs files =
 
 -- A sheet whose cells have no answer but a cycle at x: every sheet has an answer, so that is this one's.
 module _ (s : List ℕ) {w : Sheet} (is : judge s ≡ sheet w) (x : CellNo)
-    (law : (order : List ℕ) (r : Ordering) → Ordering_is (sheet_netlist w) order r → r ≡ Cycle x) where
+    (law : (order : List ℕ) (r : Result (Unit {0}) Cycle) → Ordering_is (sheet_netlist w) order r → r ≡ Err (record { lowest = x })) where
   cyclic_at : Checks s (faulty (fault CycleFault (of_cell x)))
   cyclic_at = go (every_answered s).checks
     where
@@ -245,14 +244,14 @@ module _ (s : List ℕ) {w : Sheet} (is : judge s ≡ sheet w) (x : CellNo)
       go (cyclic {w = v} {x = y} e lowest) =
           let own : v ≡ w = cc in
           let lowest' : Lowest (sheet_netlist w) y = subst (λ (u : Sheet). Lowest (sheet_netlist u) y) own lowest in
-          let at : Cycle y ≡ Cycle x = law [] (Cycle y) (answers_cycle lowest') in
-          let same : y ≡ x = cc in
+          let at : ◌≡◌ {A = Result (Unit {0}) Cycle} (Err (record { lowest = y })) (Err (record { lowest = x })) = law [] _ (answers_cycle lowest') in
+          let cycles : ◌≡◌ {A = Cycle} (record { lowest = y }) (record { lowest = x }) = cc in
+          let same : y ≡ x = ap (λ (c : Cycle). c.lowest) cycles in
           cyclic is (subst (Lowest (sheet_netlist w)) same lowest')
       go (accepted {w = v} order e ordered) =
           let own : v ≡ w = cc in
-          let at : Found ≡ Cycle x = law order Found (answers_found (subst (λ (u : Sheet). Ordered (sheet_netlist u) order) own ordered)) in
-          let z : ◌≡◌ {A = ℕ} 0 1 = cc in
-          absurd (omega arith)
+          let at : ◌≡◌ {A = Result (Unit {0}) Cycle} (Ok tt) (Err (record { lowest = x })) = law order (Ok tt) (answers_found (subst (λ (u : Sheet). Ordered (sheet_netlist u) order) own ordered)) in
+          absurd (cc)
 
 -- The table.
 pub paper : All Holds cases

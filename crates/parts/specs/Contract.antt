@@ -18,6 +18,8 @@ use Rattle.cells.specs.Cells.{low, signal_cell}
 use Rattle.gates.specs.Folding.{New, and_at, butnot_at}
 use Rattle.gates.specs.Rows.{code}
 use Rattle.gates.specs.Store.{parallel_cells, WroteCells}
+use Rattle.gates.specs.declared.Column.{Column}
+use Rattle.parts.specs.declared.Wires.{Wires}
 use Rattle.parts.specs.declared.Returned.{Returned}
 use Rattle.parts.specs.declared.Opened.{Opened}
 use Rattle.parts.specs.Equations.{Built, past, Joined, build_sequence, build_loop, build_present, build_watching, build_parallel, build_trap}
@@ -30,9 +32,9 @@ own_cells = 2 + 1 + parallel_cells
 abbrev pub nets : List ℕ → List CellNo
 nets ls = map cell_no ls
 
--- a statement was built: its cells are stored from n on, and the lists' column, sel and codes are its own
-pub record Builds (o : Built) (l l' ls' : List ℕ) (n : ℕ) (b : Returned) : Type 0 where
-  pub wrote : WroteCells l l' n b.count o.cells
+-- a statement was built: its cells are stored, and the lists' column, sel and codes are its own
+pub record Builds (o : Built) (c c' : Column) (ls' : List ℕ) (b : Returned) : Type 0 where
+  pub wrote : WroteCells c c' o.cells
   pub lists : nets ls' ≡ o.lists
   pub sel : b.sel ≡ o.sel
   pub codes : b.codes ≡ o.codes
@@ -85,34 +87,33 @@ close_two (Present s) keep n g i p q =
     build_present (past (past n x) y) x y p q
 close_two Parallel keep n g i p q = build_parallel n i keep p q
 
--- what is so when the parts are to be built
-pub record Opens (o : Opening) (l l' : List ℕ) (n : ℕ) (w : Opened) : Type 0 where
-  pub wrote : WroteCells l l' n w.count o.cells
+-- what is so when the one part is to be built, and when the two are
+pub record Opens (o : Opening) (c c' : Column) (w : Wires) : Type 0 where
+  pub wrote : WroteCells c c' o.cells
   pub go_is : w.go ≡ o.go
-  pub other_is : w.other ≡ o.other
   pub res_is : w.res ≡ o.res
   pub kill_is : w.kill ≡ o.kill
 
+pub record OpensTwo (o : Opening) (c c' : Column) (w : Opened) : Type 0 where
+  pub opens : Opens o c c' w.first
+  pub other_is : w.other ≡ o.other
+
 -- What closing ensures: whatever was opened from n on, and whose parts are built, is the statement. So a reserved cell that is filled, cells that
 -- follow, and a statement that adds none have one form.
-pub record ClosesOne (u : Unary) (n : ℕ) (g r : CellNo) (l₂ l₃ : List ℕ) (p b : Returned) : Type 0 where
-  pub closes : (l l₁ ls : List ℕ) (n₁ : ℕ) (i : CellNo) (x : Built) → WroteCells l l₁ n n₁ (open_one u n g r i).cells
-      → Builds x l₁ l₂ ls n₁ p → Builds (close_one u n g r x) l l₃ ls n b
+pub record ClosesOne (u : Unary) (n : CellNo) (w : Wires) (c₂ c₃ : Column) (p b : Returned) : Type 0 where
+  pub same : c₃.cells.ghost_name ≡ c₂.cells.ghost_name
+  pub closes : (c c₁ : Column) (ls : List ℕ) (i : CellNo) (x : Built) → n ≡ cell_no c.count
+      → WroteCells c c₁ (open_one u c.count w.go w.res i).cells → Builds x c₁ c₂ ls p → Builds (close_one u c.count w.go w.res x) c c₃ ls b
 
--- where a statement with two parts began, its go and its kill
-pub record Begun : Type 0 where
-  pub start : ℕ
-  pub go : CellNo
-  pub kill : CellNo
-
-pub record ClosesTwo (b : Binary) (keep : ℕ → Bool) (w : Begun) (l₃ l₄ : List ℕ) (p q s : Returned) : Type 0 where
-  pub closes : (l l₁ l₂ ls₁ ls₂ : List ℕ) (n₁ : ℕ) (r : CellNo) (x y : Built)
-      → WroteCells l l₁ w.start n₁ (open_two b w.start w.go r w.kill).cells → Builds x l₁ l₂ ls₁ n₁ p → Builds y l₂ l₃ ls₂ p.count q
-      → Builds (close_two b keep w.start w.go w.kill x y) l l₄ ls₂ w.start s
+pub record ClosesTwo (b : Binary) (keep : ℕ → Bool) (n : CellNo) (w : Wires) (c₃ c₄ : Column) (p q s : Returned) : Type 0 where
+  pub same : c₄.cells.ghost_name ≡ c₃.cells.ghost_name
+  pub closes : (c c₁ c₂ : Column) (ls₁ ls₂ : List ℕ) (r : CellNo) (x y : Built) → n ≡ cell_no c.count
+      → WroteCells c c₁ (open_two b c.count w.go r w.kill).cells → Builds x c₁ c₂ ls₁ p → Builds y c₂ c₃ ls₂ q
+      → Builds (close_two b keep c.count w.go w.kill x y) c c₄ ls₂ s
 
 -- the or's of two parts are made
-pub record Joins (j : Joined) (l l' : List ℕ) (n : ℕ) (b : Returned) : Type 0 where
-  pub wrote : WroteCells l l' n b.count j.cells
+pub record Joins (j : Joined) (c c' : Column) (b : Returned) : Type 0 where
+  pub wrote : WroteCells c c' j.cells
   pub sel : b.sel ≡ j.sel
   pub codes : b.codes ≡ j.codes
 

@@ -17,7 +17,6 @@ use Rattle.sheet.specs.Stmt.{Stmt, leaf, one, two, halt_count}
 use Rattle.sheet.specs.Rows.{halts_on}
 use Rattle.sheet.specs.Form.{Proper}
 use Rattle.sheet.proofs.Notions.{Numbered, Exits, in_halts, halt_within, proper_numbered, proper_exits}
-use Rattle.sets.specs.declared.Found.TheVariants.{Clear}
 use Rattle.sets.specs.Codes.{same, empty, join, larger, caught}
 use Rattle.sets.specs.Static.{K, R}
 use Rattle.sets.specs.Faults.{instant}
@@ -29,6 +28,7 @@ use Rattle.rules.specs.Rules.{Signals, Halts, Outcome, idle, only_halt, then_on,
 use Rattle.rules.specs.States.{State, halts_of, fresh, react, next_state, no_halts_from, may_end, apart, fits, at_rest}
 use Rattle.rules.proofs.Codes.{NoInstant, no_instant, start_in_k, resume_in_r, sequence_left, sequence_right, parallel_left, parallel_right}
 use Rattle.rules.proofs.Codes.{right_ends, left_ends}
+use Rattle.std.specs.Prelude.{None}
 
 -- H has those of t's halts that A has
 abbrev pub On : Stmt → Halts → Halts → Type 0
@@ -405,7 +405,7 @@ unfolding fits pick
 booted_apart S t f on = and_right (no_halts_from (halt_count t) S) (apart (halts_of S) t) (rw on at f)
 
 -- A sheet that was read and that INSTANT does not refuse: what a reaction returns fits again.
-pub fits_again : {i o : ℕ} {t : Stmt} → Proper i o t → instant (stmt_no 0) t ≡ Clear
+pub fits_again : {i o : ℕ} {t : Stmt} → Proper i o t → instant (stmt_no 0) t ≡ None
     → (E : Signals) (S : State) → fits S t ≡ true → fits (next_state (react E S t)) t ≡ true
 unfolding react
 fits_again {t = t} proper clear E S f =

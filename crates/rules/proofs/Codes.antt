@@ -11,14 +11,13 @@ use Rattle.sheet.specs.declared.Unary.TheVariants.{Loop, Watching, Trap, Signal}
 use Rattle.sheet.specs.declared.Binary.TheVariants.{Sequence, Present, Parallel}
 use Rattle.sheet.specs.Stmt.{Stmt, leaf, one, two, size}
 use Rattle.sheet.specs.Read.{further}
-use Rattle.sets.specs.declared.Found.{Found}
-use Rattle.sets.specs.declared.Found.TheVariants.{At, Clear}
 use Rattle.sets.specs.Codes.{Codes, same, join, when, larger, caught, upto, maxima, replaced, less0, with0, caught_codes}
 use Rattle.sets.specs.Static.{K, R, has_halts}
 use Rattle.sets.specs.Faults.{or_else, instant}
 use Rattle.rules.specs.Rules.{Signals, Halts, Outcome, idle, then_on, followed, start, active, resume}
 use Rattle.rules.specs.States.{may_end, apart}
 use Rattle.number.proofs.Bools.{taut, or_left, or_right, and_both}
+use Rattle.std.specs.Prelude.{Option, Some, None}
 
 -- "INSTANT: some loop has 0 in K(p)": no loop has
 unfoldable pub NoInstant : Stmt → Type 0
@@ -30,26 +29,26 @@ NoInstant (one Trap p) = NoInstant p
 NoInstant (one (Signal s) p) = NoInstant p
 NoInstant (two b p q) = NoInstant p × NoInstant q
 
-found_none : {A : Type 0} (n : StmtNo) → At n ≡ Clear → A
+found_none : {A : Type 0} (n : StmtNo) → Some n ≡ None → A
 found_none n e = let absurdity : ◌≡◌ {A = ℕ} 0 1 = cc in absurd (omega arith)
 
-clear_first : (f g : Found) → or_else f g ≡ Clear → f ≡ Clear
+clear_first : (f g : Option StmtNo) → or_else f g ≡ None → f ≡ None
 unfolding or_else
-clear_first (At n) g e = found_none n e
-clear_first Clear g e = refl
+clear_first (Some n) g e = found_none n e
+clear_first None g e = refl
 
-clear_second : (f g : Found) → or_else f g ≡ Clear → g ≡ Clear
+clear_second : (f g : Option StmtNo) → or_else f g ≡ None → g ≡ None
 unfolding or_else
-clear_second (At n) g e = found_none n e
-clear_second Clear g e = e
+clear_second (Some n) g e = found_none n e
+clear_second None g e = e
 
-pub clear_loop : (n : StmtNo) (b : Bool) (f : Found) → pick b (At n) f ≡ Clear → (b ≡ false) × (f ≡ Clear)
+pub clear_loop : (n : StmtNo) (b : Bool) (f : Option StmtNo) → pick b (Some n) f ≡ None → (b ≡ false) × (f ≡ None)
 unfolding pick
 clear_loop n true f e = found_none n e
 clear_loop n false f e = (refl, e)
 
 -- INSTANT is not answered
-pub no_instant : (n : StmtNo) (t : Stmt) → instant n t ≡ Clear → NoInstant t
+pub no_instant : (n : StmtNo) (t : Stmt) → instant n t ≡ None → NoInstant t
 unfolding instant NoInstant
 no_instant n (leaf l) e = tt
 no_instant n (one Loop p) e =
@@ -59,8 +58,8 @@ no_instant n (one (Watching s) p) e = no_instant (further n 1) p e
 no_instant n (one Trap p) e = no_instant (further n 1) p e
 no_instant n (one (Signal s) p) e = no_instant (further n 1) p e
 no_instant n (two b p q) e =
-    let left : Found = instant (further n 1) p in
-    let right : Found = instant (further n (1 + size p)) q in
+    let left : Option StmtNo = instant (further n 1) p in
+    let right : Option StmtNo = instant (further n (1 + size p)) q in
     (no_instant (further n 1) p (clear_first left right e), no_instant (further n (1 + size p)) q (clear_second left right e))
 
 pub same_self : (k : ℕ) → same k k ≡ true

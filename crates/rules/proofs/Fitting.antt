@@ -1,6 +1,6 @@
 -- Whether a state fits, by what the walk finds at each row.
 use mathlib.Core.Path.{◌≡◌, refl, sym, ap, ◌∙◌, subst}
-use mathlib.Core.Bool.{Bool, true, false, not, ◌&&◌, ◌||◌, true≢false, false≢true}
+use mathlib.Core.Bool.{Bool, true, false, not, ◌&&◌, ◌||◌}
 use mathlib.Core.List.{List}
 use Prim.Native.Nat.{ℕ, ◌+◌, ◌<◌, ◌≤◌}
 use native.Mathlib.Omega.{arith}
@@ -16,7 +16,7 @@ use Rattle.sheet.specs.declared.Unary.{Unary}
 use Rattle.sheet.specs.declared.Binary.{Binary}
 use Rattle.sheet.specs.declared.Binary.TheVariants.{Sequence, Present, Parallel}
 use Rattle.sheet.specs.declared.Head.TheVariants.{Zero, One, Two}
-use Rattle.sheet.specs.Stmt.{Stmt, leaf, one, two, halt_count}
+use Rattle.sheet.specs.Stmt.{Stmt, one, two, halt_count}
 use Rattle.sheet.specs.Read.{further}
 use Rattle.sheet.specs.Rows.{halts_on, row_at, Holds}
 use Rattle.sheet.specs.Form.{Proper}
@@ -25,32 +25,29 @@ use Rattle.sheet.proofs.Walk.{IsTwo, is_leaf, is_one, is_two, holds_second, past
 use Rattle.sets.specs.Static.{K, R}
 use Rattle.sets.specs.Words.{Low, Entered, Kept}
 use Rattle.sets.proofs.Bounds.{exits_low}
+use Rattle.sets.proofs.Searching.{kept_own}
 use Rattle.number.proofs.Bools.{taut}
 use Rattle.rules.specs.Rules.{Halts, active}
 use Rattle.rules.specs.States.{no_halts_from, may_end, apart, fits}
-use Rattle.rules.specs.Words.{halts_in, sides_fit, is_parallel, Runnable, Inside, Known, PartsFit, ToldApart, root, KnownRoot, Fitted}
+use Rattle.rules.specs.Words.{halts_in, sides_fit, Runnable, Inside, Known, PartsFit, ToldApart, root, KnownRoot, Fitted}
 use Rattle.rules.proofs.Walks.{holds_one, run_one, run_left, run_right, inside_few, run_proper}
-
-kept_here : (statics : List ℕ) (n : StmtNo) (t : Stmt) → Kept statics n t → Entered statics n t
-unfolding Kept
-kept_here statics n (leaf l) k = k
-kept_here statics n (one u p) k = k.0
-kept_here statics n (two b p q) k = k.0
+use Rattle.sets.specs.declared.Both.{Both}
+use Rattle.sheet.specs.declared.Row.{Row}
 
 -- what is known of a statement that the rows hold at m is known of what can be run there
-known_at : {rows statics : List ℕ} {m : StmtNo} (r : Runnable rows m) (a : HaltNo) (t : Stmt) → Holds rows m a t → Low t → Kept statics m t
+known_at : {rows : List Row} {statics : List Both} {m : StmtNo} (r : Runnable rows m) (a : HaltNo) (t : Stmt) → Holds rows m a t → Low t → Kept statics m t
     → Known rows statics m
 known_at {rows} {statics} {m} r a t h low kept =
     let tree : t ≡ r.stmt = holds_one rows m a r.first t r.stmt h r.holds in
     record { run = r; low = subst Low tree low; kept = subst (λ (x : Stmt). Kept statics m x) tree kept }
 
 -- what is known of the statement at row n is known of its parts
-module _ {rows statics : List ℕ} {n : StmtNo} (known : Known rows statics n) where
+module _ {rows : List Row} {statics : List Both} {n : StmtNo} (known : Known rows statics n) where
   abbrev run : Runnable rows n
   run = known.run
 
   pub known_inside : of_stmt n < length statics
-  known_inside = (kept_here statics n run.stmt known.kept).inside
+  known_inside = (kept_own statics n run.stmt known.kept).inside
 
   known_of : (a : HaltNo) (t : Stmt) → Holds rows n a t → Low t × Kept statics n t
   known_of a t h =
@@ -98,7 +95,7 @@ apart_two H (Present s) x y = refl
 apart_two H Parallel x y =
     regroup (not (active H x) || (active H y || may_end y)) (not (active H y) || (active H x || may_end x)) (apart H x) (apart H y)
 
-module _ (rows : List ℕ) (n : StmtNo) (w : ℕ) where
+module _ (rows : List Row) (n : StmtNo) (w : ℕ) where
   pub apart_leaf : {l : Leaf} → (row_at rows n).head ≡ Zero l → ToldApart rows n w true
   unfolding apart
   apart_leaf head = record { answer = λ a t h. rw (is_leaf rows n a t h head) }
@@ -111,18 +108,18 @@ module _ (rows : List ℕ) (n : StmtNo) (w : ℕ) where
       answer a t h = let k = is_one rows n a t h head in rw k.is (part.answer a k.part k.holds)
 
 -- what `may_end` ensures of the statement at row n
-abbrev pub Ends : List ℕ → StmtNo → Bool → Type 0
+abbrev pub Ends : List Both → StmtNo → Bool → Type 0
 Ends statics n x = (t : Stmt) → Low t → Entered statics n t → x ≡ (K t 0 || R t 0)
 
-known_ends : {rows statics : List ℕ} {n : StmtNo} {x : Bool} → Known rows statics n → Ends statics n x → (a : HaltNo) (t : Stmt)
+known_ends : {rows : List Row} {statics : List Both} {n : StmtNo} {x : Bool} → Known rows statics n → Ends statics n x → (a : HaltNo) (t : Stmt)
     → Holds rows n a t → x ≡ may_end t
-known_ends {statics = statics} {n = n} known ends a t h = let all = known_of known a t h in ends t all.0 (kept_here statics n t all.1)
+known_ends {statics = statics} {n = n} known ends a t h = let all = known_of known a t h in ends t all.0 (kept_own statics n t all.1)
 
 same_sides : (b : Binary) (p p' q q' x x' y y' : Bool) → p ≡ p' → q ≡ q' → x ≡ x' → y ≡ y' → sides_fit b p q x y ≡ sides_fit b p' q' x' y'
 same_sides b p p' q q' x x' y y' hp hq hx hy = rw (hp, hq, hx, hy)
 
 -- the parts' halts, and whether each part may end
-pub parts_answer : {rows statics : List ℕ} {m n : StmtNo} {p q x y : Bool} (b : Binary) (w : ℕ) → Known rows statics m × Known rows statics n
+pub parts_answer : {rows : List Row} {statics : List Both} {m n : StmtNo} {p q x y : Bool} (b : Binary) (w : ℕ) → Known rows statics m × Known rows statics n
     → Inside rows m w p → Inside rows n w q → Ends statics m x → Ends statics n y → PartsFit rows b m n w (sides_fit b p q x y)
 parts_answer {rows} {m = m} {n} {p} {q} {x} {y} b w known in_m in_n ends_m ends_n = record { answer = answer }
   where
@@ -135,7 +132,7 @@ parts_answer {rows} {m = m} {n} {p} {q} {x} {y} b w known in_m in_n ends_m ends_
 second_off : (a b : Bool) → false ≡ (a && (false && b))
 second_off = taut 2 0 _ _ _ tt
 
-module _ {rows : List ℕ} (n : StmtNo) {b : Binary} {fit : Bool} (w : ℕ) (head : (row_at rows n).head ≡ Two b)
+module _ {rows : List Row} (n : StmtNo) {b : Binary} {fit : Bool} (w : ℕ) (head : (row_at rows n).head ≡ Two b)
     (parts : PartsFit rows b (further n 1) (row_at rows (further n 1)).end w fit) where
   abbrev H : Halts
   H = halts_in w
@@ -173,23 +170,12 @@ module _ {rows : List ℕ} (n : StmtNo) {b : Binary} {fit : Bool} (w : ℕ) (hea
           let on : apart H k.left ≡ true = sym (left.answer a k.left k.holds_left) in
           rw (rule a t h k, fits, on) (right.answer (halts_on a (halt_count k.left)) k.right (holds_second rows n a k))
 
--- what the code answers for the sides
-pub parallel_sides : (b : Binary) (p q x y : Bool) → is_parallel b ≡ true → sides_fit b p q x y ≡ sides_fit Parallel p q x y
-parallel_sides Sequence p q x y e = absurd (false≢true e)
-parallel_sides (Present s) p q x y e = absurd (false≢true e)
-parallel_sides Parallel p q x y e = refl
-
-pub other_sides : (b : Binary) (p q x y : Bool) → is_parallel b ≡ false → sides_fit b p q x y ≡ not (p && q)
-other_sides Sequence p q x y e = refl
-other_sides (Present s) p q x y e = refl
-other_sides Parallel p q x y e = absurd (true≢false e)
-
 -- a whole sheet has no more halts than a state has bits for
-pub root_past : {rows statics : List ℕ} → KnownRoot rows statics → of_halt (row_at rows root).past ≤ max_halts
+pub root_past : {rows : List Row} {statics : List Both} → KnownRoot rows statics → of_halt (row_at rows root).past ≤ max_halts
 root_past k = (inside_few k.known.run).1
 
 -- the whole state
-module _ (rows : List ℕ) (w : ℕ) where
+module _ (rows : List Row) (w : ℕ) where
   pub fits_unbooted : {r : Bool} → has w boot ≡ false → r ≡ no_halts_from 0 (has w) → Fitted rows w r
   unfolding fits pick
   fits_unbooted off e = record { answer = λ t h. rw off e }
@@ -212,7 +198,7 @@ module _ (rows : List ℕ) (w : ℕ) where
   fits_apart on none told = record { answer = λ t h. rw (on, spare_bits t h, none) (told.answer (halt_no 0) t h) }
 
 -- A sheet that was read, with its column: what `fits` asks for.
-pub known_proper : {i o : ℕ} {t : Stmt} {rows statics : List ℕ} → Proper i o t → Holds rows root (halt_no 0) t → Kept statics root t
+pub known_proper : {i o : ℕ} {t : Stmt} {rows : List Row} {statics : List Both} → Proper i o t → Holds rows root (halt_no 0) t → Kept statics root t
     → KnownRoot rows statics
 unfolding run_proper
 known_proper {t = t} h holds kept =

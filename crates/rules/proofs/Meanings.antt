@@ -2,6 +2,7 @@
 use mathlib.Core.Path.{◌≡◌, refl, sym, ap, ◌∙◌}
 use mathlib.Core.Bool.{Bool, false, ◌||◌, or-true, or-false}
 use Prim.Native.Nat.{ℕ, zero, suc, ◌+◌, ◌<◌, ◌≤◌}
+use Rattle.std.specs.Prelude.{max}
 use native.Mathlib.Omega.{arith}
 use native.Mathlib.Decide.{ℕ_discrete}
 use lib.Dec.{eqb}
@@ -146,17 +147,11 @@ next_means r w added = record { state = bit }
         let one : has (whole r.halts) (suc h) ≡ o.halts (halt_no h) = rw here at (m.halts (halt_no h)) in
         rw (added (suc h), one, ne_eqb (suc h) boot (λ q. omega arith)) (or-false (o.halts (halt_no h)))
 
--- the code's `larger` and `caught`
-pub larger_right : (a b : ℕ) → a < b → b ≡ larger a b
-larger_right zero b l = refl
-larger_right (suc a) zero l = absurd (omega arith)
-larger_right (suc a) (suc b) l = ap suc (larger_right a b (omega arith))
-
-pub larger_left : (a b : ℕ) → b ≤ a → a ≡ larger a b
-larger_left zero zero l = refl
-larger_left zero (suc b) l = absurd (omega arith)
-larger_left (suc a) zero l = refl
-larger_left (suc a) (suc b) l = ap suc (larger_left a b (omega arith))
+-- the code's `max` and `caught`
+pub max_larger : (a b : ℕ) → max a b ≡ larger a b
+max_larger zero b = omega arith
+max_larger (suc a) zero = omega arith
+max_larger (suc a) (suc b) = omega (arith, max_larger a b)
 
 pub caught_low : (c : ℕ) → c < 2 → c ≡ caught c
 caught_low zero l = refl

@@ -1,6 +1,6 @@
 -- A statement resumed, by its parts: one law for each return of the walk. E is the set e of present signals, and H the halts of the state w.
 use mathlib.Core.Path.{◌≡◌, refl, sym}
-use mathlib.Core.Bool.{Bool, true, false, not, false≢true, true≢false}
+use mathlib.Core.Bool.{Bool, true, false, not, false≢true}
 use mathlib.Core.List.{List}
 use Prim.Native.Nat.{ℕ, ◌-◌, ◌*◌, ◌<◌}
 use native.Mathlib.Omega.{arith}
@@ -26,11 +26,12 @@ use Rattle.sheet.proofs.Walk.{IsOne, IsTwo, is_leaf, is_one, is_two, holds_secon
 use Rattle.rules.specs.declared.Yield.{Yield}
 use Rattle.rules.specs.Rules.{Signals, Halts, Outcome, idle, followed, beside, trapped, start, active, resume}
 use Rattle.rules.specs.States.{react}
-use Rattle.rules.specs.Words.{halts_in, Means, resumed, is_parallel, Runnable}
+use Rattle.rules.specs.Words.{halts_in, Means, resumed, Runnable}
 use Rattle.rules.specs.Words.{Started, Resumed, root, Reacted, Inside}
 use Rattle.rules.proofs.Again.{only_right}
 use Rattle.rules.proofs.Meanings.{stopped_means}
 use Rattle.rules.proofs.Walks.{holds_one, run_within, run_one, run_left, run_right, right_further}
+use Rattle.sheet.specs.declared.Row.{Row}
 
 resumed_on : (E : Signals) (H : Halts) (t : Stmt) → active H t ≡ true → resumed E H t ≡ resume E H t
 unfolding pick
@@ -44,26 +45,19 @@ leaf_rule E H (Halt h) on = refl
 leaf_rule E H (Emit s) on = absurd (false≢true on)
 leaf_rule E H (Exit k) on = absurd (false≢true on)
 
-right_rule : (E : Signals) (H : Halts) (b : Binary) (x y : Stmt) → is_parallel b ≡ false → active H x ≡ false
+right_rule : (E : Signals) (H : Halts) (b : Binary) (x y : Stmt) → (b ≡ Parallel → ⊥) → active H x ≡ false
     → resume E H (two b x y) ≡ resume E H y
 unfolding resume pick
-right_rule E H Sequence x y sides off = rw off
-right_rule E H (Present s) x y sides off = rw off
-right_rule E H Parallel x y sides off = absurd (true≢false sides)
-
-parallel_rule : (E : Signals) (H : Halts) (b : Binary) (x y : Stmt) → is_parallel b ≡ true
-    → resume E H (two b x y) ≡ beside (resumed E H x) (resumed E H y)
-unfolding resume
-parallel_rule E H Sequence x y sides = absurd (false≢true sides)
-parallel_rule E H (Present s) x y sides = absurd (false≢true sides)
-parallel_rule E H Parallel x y sides = refl
+right_rule E H Sequence x y other off = rw off
+right_rule E H (Present s) x y other off = rw off
+right_rule E H Parallel x y other off = absurd (other refl)
 
 right_active : (H : Halts) (b : Binary) (x y : Stmt) → active H (two b x y) ≡ true → active H x ≡ false → active H y ≡ true
 unfolding active
 right_active H b x y = only_right (active H x) (active H y)
 
 -- where the halt lies that lies in the statement
-module _ (rows : List ℕ) (n : StmtNo) (w : ℕ) (on : Inside rows n w true) where
+module _ (rows : List Row) (n : StmtNo) (w : ℕ) (on : Inside rows n w true) where
   -- the part has the halt that the statement has
   pub inside_part : {u : Unary} → Runnable rows n → (row_at rows n).head ≡ One u → Inside rows (further n 1) w true
   unfolding active
@@ -96,21 +90,21 @@ module _ (rows : List ℕ) (n : StmtNo) (w : ℕ) (on : Inside rows n w true) wh
           rw same (sym (right_active (halts_in w) b k.left k.right here none))
 
 -- what the code's test says of the statement at row n, which is row m
-pub inside_off : {rows : List ℕ} {m n : StmtNo} {w : ℕ} {x : Bool} → m ≡ n → Inside rows m w x → not x ≡ true → Inside rows n w false
+pub inside_off : {rows : List Row} {m n : StmtNo} {w : ℕ} {x : Bool} → m ≡ n → Inside rows m w x → not x ≡ true → Inside rows n w false
 inside_off {x = x} e k off = rw (e, not-true x off) at k
 
-pub inside_on : {rows : List ℕ} {m n : StmtNo} {w : ℕ} {x : Bool} → m ≡ n → Inside rows m w x → not x ≡ false → Inside rows n w true
+pub inside_on : {rows : List Row} {m n : StmtNo} {w : ℕ} {x : Bool} → m ≡ n → Inside rows m w x → not x ≡ false → Inside rows n w true
 inside_on {x = x} e k on = rw (e, not-false x on) at k
 
 -- What the walk of a part asks for: fewer rows to go, a statement that can be run, and a halt of the state inside.
-abbrev pub Resumable : List ℕ → StmtNo → ℕ → Type 0
+abbrev pub Resumable : List Row → StmtNo → ℕ → Type 0
 Resumable rows m w = Runnable rows m × Inside rows m w true
 
-abbrev pub Asks : List ℕ → StmtNo → ℕ → ℕ → Type 0
+abbrev pub Asks : List Row → StmtNo → ℕ → ℕ → Type 0
 Asks rows m w t = (2 * (length rows - of_stmt m) < t) × Resumable rows m w
 
 -- By what the code has found, m being where the part stands.
-module _ {rows : List ℕ} {n : StmtNo} {w t : ℕ} (run : Runnable rows n) (measure : 2 * (length rows - of_stmt n) - 1 ≡ t) where
+module _ {rows : List Row} {n : StmtNo} {w t : ℕ} (run : Runnable rows n) (measure : 2 * (length rows - of_stmt n) - 1 ≡ t) where
   ask : {m : StmtNo} → of_stmt n < of_stmt m → Runnable rows m → Inside rows m w true → Asks rows m w t
   ask past part on = (omega (arith, run_within run), (part, on))
 
@@ -129,7 +123,7 @@ module _ {rows : List ℕ} {n : StmtNo} {w t : ℕ} (run : Runnable rows n) (mea
         → Asks rows m w t
     ask_other on off e = rw e (ask (right_further run head) (run_right run head) (inside_right rows n w on run head off))
 
-module _ (rows : List ℕ) (n : StmtNo) (e w : ℕ) where
+module _ (rows : List Row) (n : StmtNo) (e w : ℕ) where
   abbrev E : Signals
   E = signals_in e
 
@@ -213,9 +207,9 @@ module _ (rows : List ℕ) (n : StmtNo) (e w : ℕ) where
       resume_signal head = by_part head part λ a x h m. m
 
     -- the right side alone
-    pub resume_right : {b : Binary} {q : Yield} → (row_at rows n).head ≡ Two b → is_parallel b ≡ false → Inside rows (further n 1) w false
+    pub resume_right : {b : Binary} {q : Yield} → (row_at rows n).head ≡ Two b → (b ≡ Parallel → ⊥) → Inside rows (further n 1) w false
         → Resumed rows (row_at rows (further n 1)).end e w q → Resumed rows n e w q
-    resume_right {b} {q} head sides off right = by_rule rule
+    resume_right {b} {q} head other off right = by_rule rule
       where
         rule : Rule q
         rule a t h x =
@@ -223,7 +217,7 @@ module _ (rows : List ℕ) (n : StmtNo) (e w : ℕ) where
             let none : active H k.left ≡ false = sym (off.answer a k.left k.holds_left) in
             let some : active H k.right ≡ true = right_active H b k.left k.right (rw k.is at x) none in
             let m = right.means (halts_on a (halt_count k.left)) k.right (holds_second rows n a k) in
-            rw (k.is, right_rule E H b k.left k.right sides none) (rw (resumed_on E H k.right some) at m)
+            rw (k.is, right_rule E H b k.left k.right other none) (rw (resumed_on E H k.right some) at m)
 
     -- the left side of a sequence or present
     module _ {p : Yield} (in_left : Inside rows (further n 1) w true) (left : Resumed rows (further n 1) e w p) where
@@ -253,20 +247,21 @@ module _ (rows : List ℕ) (n : StmtNo) (e w : ℕ) where
       resume_chosen head = by_left head λ a x y on_left h m. rw on_left m
 
     -- the sides of a parallel
-    pub resume_parallel : {b : Binary} {p q r : Yield} → (row_at rows n).head ≡ Two b → is_parallel b ≡ true → Resumed rows (further n 1) e w p
+    pub resume_parallel : {p q r : Yield} → (row_at rows n).head ≡ Two Parallel → Resumed rows (further n 1) e w p
         → Resumed rows (row_at rows (further n 1)).end e w q → ((x y : Outcome) → Means p x → Means q y → Means r (beside x y))
         → Resumed rows n e w r
-    resume_parallel {b} {p} {q} {r} head sides left right f = by_rule rule
+    unfolding resume
+    resume_parallel {p} {q} {r} head left right f = by_rule rule
       where
         rule : Rule r
         rule a t h x =
             let k = is_two rows n a t h head in
-            rw (k.is, parallel_rule E H b k.left k.right sides)
+            rw k.is
             (f (resumed E H k.left) (resumed E H k.right) (left.means a k.left k.holds_left)
             (right.means (halts_on a (halt_count k.left)) k.right (holds_second rows n a k)))
 
 -- the root's reaction
-module _ (rows : List ℕ) (e w : ℕ) (r : Yield) where
+module _ (rows : List Row) (e w : ℕ) (r : Yield) where
   pub react_resumes : has w boot ≡ true → Resumed rows root e w r → Reacted rows e w r
   unfolding react pick
   react_resumes on k = record { means = means }

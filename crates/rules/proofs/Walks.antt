@@ -1,6 +1,6 @@
 -- What the walks over the rows stand on: where a part stands, that its walk is shorter, and what a statement's run is by those of its parts.
 use mathlib.Core.Path.{◌≡◌, refl, sym, ap, ◌∙◌, subst}
-use mathlib.Core.Bool.{Bool, true, false, not, ◌&&◌, ◌||◌, false≢true, true≢false}
+use mathlib.Core.Bool.{Bool, true, false, not, ◌&&◌, ◌||◌}
 use mathlib.Core.List.{List}
 use Prim.Native.Nat.{ℕ, ◌+◌, ◌-◌, ◌<◌, ◌≤◌}
 use native.Mathlib.Omega.{arith}
@@ -22,23 +22,24 @@ use Rattle.sheet.specs.declared.Binary.TheVariants.{Sequence, Present, Parallel}
 use Rattle.sheet.specs.declared.Head.TheVariants.{Zero, One, Two}
 use Rattle.sheet.specs.Stmt.{Stmt, leaf, one, two, head_of, size, halt_count}
 use Rattle.sheet.specs.Read.{further}
-use Rattle.sheet.specs.Rows.{halts_on, row_at, Holds, Tree}
+use Rattle.sheet.specs.Rows.{stmt_span, halts_on, row_at, Holds, Tree}
 use Rattle.sheet.specs.Form.{Proper}
 use Rattle.sheet.proofs.Notions.{Numbered, Scoped, proper_numbered, proper_scoped}
-use Rattle.sheet.proofs.Walk.{size_pos, head_of_lem, first_of, past_of, few_numbers, IsOne, IsTwo, is_leaf, is_one, is_two}
+use Rattle.sheet.proofs.Walk.{head_of_lem, first_of, past_of, IsOne, IsTwo, is_leaf, is_one, is_two}
 use Rattle.sheet.proofs.Walk.{holds_second, tree_within, tree_end, tree_left}
 use Rattle.number.proofs.Bools.{taut}
 use Rattle.rules.specs.declared.Yield.{Yield}
 use Rattle.rules.specs.Rules.{Signals, Outcome, followed, beside, trapped, start, active}
 use Rattle.rules.specs.States.{State, halts_of}
-use Rattle.rules.specs.Words.{halts_in, Means, LeafInBits, InBits, Runnable, is_trap, Started, root, Inside}
+use Rattle.rules.specs.Words.{halts_in, Means, LeafInBits, InBits, Runnable, Started, root, Inside}
 use Rattle.rules.proofs.Meanings.{stopped_means}
+use Rattle.sheet.specs.declared.Row.{Row}
 
 two_same : (x : Binary) (p p' q q' : Stmt) → p ≡ p' → q ≡ q' → two x p q ≡ two x p' q'
 two_same x p p' q q' l r = rw (l, r)
 
 -- Rows hold one statement at most, with one first halt.
-pub holds_one : (rows : List ℕ) (n : StmtNo) (a b : HaltNo) (t u : Stmt) → Holds rows n a t → Holds rows n b u → t ≡ u
+pub holds_one : (rows : List Row) (n : StmtNo) (a b : HaltNo) (t u : Stmt) → Holds rows n a t → Holds rows n b u → t ≡ u
 unfolding Holds head_of
 holds_one rows n a b (leaf l) u h k = sym (is_leaf rows n b u k (head_of_lem rows n a (leaf l) h))
 holds_one rows n a b (one x p) u h k =
@@ -54,21 +55,21 @@ holds_one rows n a b (two x p q) u h k =
     two_same x p part.left q part.right left right ∙ sym part.is
 
 -- so whatever the rows hold at n can be run, if something that can be run stands there
-pub bits_of : {rows : List ℕ} {n : StmtNo} → Runnable rows n → (a : HaltNo) (t : Stmt) → Holds rows n a t → InBits a t
+pub bits_of : {rows : List Row} {n : StmtNo} → Runnable rows n → (a : HaltNo) (t : Stmt) → Holds rows n a t → InBits a t
 bits_of {rows} {n} run a t h =
     let tree : run.stmt ≡ t = holds_one rows n run.first a run.stmt t run.holds h in
     let first : run.first ≡ a = sym (first_of rows n run.first run.stmt run.holds) ∙ first_of rows n a t h in
     subst (λ (x : HaltNo). InBits x t) first (subst (λ (x : Stmt). InBits run.first x) tree run.bits)
 
-module _ {rows : List ℕ} {n : StmtNo} (run : Runnable rows n) where
+module _ {rows : List Row} {n : StmtNo} (run : Runnable rows n) where
   pub tree_of : Tree rows n
-  tree_of = record { first = run.first; stmt = run.stmt; holds = run.holds }
+  tree_of = record { first = run.first; stmt = run.stmt; holds = run.holds; small = run.small }
 
   pub run_within : of_stmt n < length rows
   run_within = tree_within tree_of
 
-  pub run_number : of_stmt n < 4096
-  run_number = omega (arith, few_numbers rows n run.first run.stmt run.holds, size_pos run.stmt)
+  pub run_number : of_stmt n < stmt_span
+  run_number = omega (arith, run.small)
 
   pub run_leaf : {l : Leaf} → (row_at rows n).head ≡ Zero l → LeafInBits l
   unfolding InBits
@@ -78,13 +79,14 @@ module _ {rows : List ℕ} {n : StmtNo} (run : Runnable rows n) where
       bits.0
 
   pub run_one : {u : Unary} → (row_at rows n).head ≡ One u → Runnable rows (further n 1)
-  unfolding InBits halt_count
+  unfolding InBits size halt_count
   run_one {u} e =
       let k = is_one rows n run.first run.stmt run.holds e in
       let bits : InBits run.first (one u k.part) = subst (λ (x : Stmt). InBits run.first x) k.is run.bits in
       let few : of_halt run.first + halt_count (one u k.part) ≤ max_halts =
       subst (λ (x : Stmt). of_halt run.first + halt_count x ≤ max_halts) k.is run.few in
-      record { first = run.first; stmt = k.part; holds = k.holds; bits = bits; few = few }
+      let whole : size run.stmt ≡ 1 + size k.part = ap size k.is in
+      record { first = run.first; stmt = k.part; holds = k.holds; small = omega (arith, run.small, whole); bits = bits; few = few }
 
   module _ {b : Binary} (e : (row_at rows n).head ≡ Two b) where
     sides : IsTwo rows n run.first run.stmt b
@@ -98,9 +100,20 @@ module _ {rows : List ℕ} {n : StmtNo} (run : Runnable rows n) where
     unfolding halt_count
     side_few = subst (λ (x : Stmt). of_halt run.first + halt_count x ≤ max_halts) sides.is run.few
 
+    side_sizes : size run.stmt ≡ 1 + size sides.left + size sides.right
+    unfolding size
+    side_sizes = ap size sides.is
+
     pub run_left : Runnable rows (further n 1)
     run_left =
-        record { first = run.first; stmt = sides.left; holds = sides.holds_left; bits = side_bits.0; few = omega (arith, side_few) }
+        record {
+          first = run.first;
+          stmt = sides.left;
+          holds = sides.holds_left;
+          small = omega (arith, run.small, side_sizes);
+          bits = side_bits.0;
+          few = omega (arith, side_few);
+        }
 
     pub run_right : Runnable rows (row_at rows (further n 1)).end
     run_right =
@@ -108,6 +121,7 @@ module _ {rows : List ℕ} {n : StmtNo} (run : Runnable rows n) where
           first = halts_on run.first (halt_count sides.left);
           stmt = sides.right;
           holds = holds_second rows n run.first sides;
+          small = omega (arith, run.small, side_sizes, ap (λ (m : StmtNo). of_stmt m) sides.second);
           bits = side_bits.1;
           few = omega (arith, side_few);
         }
@@ -117,42 +131,34 @@ module _ {rows : List ℕ} {n : StmtNo} (run : Runnable rows n) where
     right_further = omega (arith, (tree_end (tree_left tree_of e)).0)
 
 -- all but a trap start as their part does
-as_part : (E : Signals) (u : Unary) (p : Stmt) → is_trap u ≡ false → start E (one u p) ≡ start E p
+as_part : (E : Signals) (u : Unary) (p : Stmt) → (u ≡ Trap → ⊥) → start E (one u p) ≡ start E p
 unfolding start
-as_part E Loop p e = refl
-as_part E (Watching s) p e = refl
-as_part E Trap p e = absurd (true≢false e)
-as_part E (Signal s) p e = refl
-
-as_trap : (E : Signals) (u : Unary) (p : Stmt) → is_trap u ≡ true → start E (one u p) ≡ trapped (start E p)
-unfolding start
-as_trap E Loop p e = absurd (false≢true e)
-as_trap E (Watching s) p e = absurd (false≢true e)
-as_trap E Trap p e = refl
-as_trap E (Signal s) p e = absurd (false≢true e)
+as_part E Loop p other = refl
+as_part E (Watching s) p other = refl
+as_part E Trap p other = absurd (other refl)
+as_part E (Signal s) p other = refl
 
 -- A statement started, by its parts.
-module _ (rows : List ℕ) (n : StmtNo) (e : ℕ) where
+module _ (rows : List Row) (n : StmtNo) (e : ℕ) where
   abbrev E : Signals
   E = signals_in e
 
   pub start_leaf : {l : Leaf} {r : Yield} → (row_at rows n).head ≡ Zero l → ((X : Signals) → Means r (start X (leaf l))) → Started rows n e r
   start_leaf head f = record { means = λ a t h. rw (is_leaf rows n a t h head) (f E) }
 
-  module _ {u : Unary} {p : Yield} (head : (row_at rows n).head ≡ One u) (part : Started rows (further n 1) e p) where
-    pub start_part : is_trap u ≡ false → Started rows n e p
-    start_part is = record { means = means }
-      where
-        means : (a : HaltNo) (t : Stmt) → Holds rows n a t → Means p (start E t)
-        means a t h = let k = is_one rows n a t h head in rw (k.is, as_part E u k.part is) (part.means a k.part k.holds)
+  pub start_part : {u : Unary} {p : Yield} → (row_at rows n).head ≡ One u → (u ≡ Trap → ⊥) → Started rows (further n 1) e p → Started rows n e p
+  start_part {u} {p} head other part = record { means = means }
+    where
+      means : (a : HaltNo) (t : Stmt) → Holds rows n a t → Means p (start E t)
+      means a t h = let k = is_one rows n a t h head in rw (k.is, as_part E u k.part other) (part.means a k.part k.holds)
 
-    pub start_trap : {r : Yield} → is_trap u ≡ true → ((o : Outcome) → Means p o → Means r (trapped o)) → Started rows n e r
-    start_trap {r} is f = record { means = means }
-      where
-        means : (a : HaltNo) (t : Stmt) → Holds rows n a t → Means r (start E t)
-        means a t h =
-            let k = is_one rows n a t h head in
-            rw (k.is, as_trap E u k.part is) (f (start E k.part) (part.means a k.part k.holds))
+  pub start_trap : {p r : Yield} → (row_at rows n).head ≡ One Trap → Started rows (further n 1) e p
+      → ((o : Outcome) → Means p o → Means r (trapped o)) → Started rows n e r
+  unfolding start
+  start_trap {r = r} head part f = record { means = means }
+    where
+      means : (a : HaltNo) (t : Stmt) → Holds rows n a t → Means r (start E t)
+      means a t h = let k = is_one rows n a t h head in rw k.is (f (start E k.part) (part.means a k.part k.holds))
 
   module _ {b : Binary} {p q r : Yield} (head : (row_at rows n).head ≡ Two b)
       (of : (x y : Stmt) → Means p (start E x) → Means q (start E y) → Means r (start E (two b x y))) where
@@ -233,7 +239,7 @@ active_bits S a (two b p q) w =
     rw (active_bits S a p w.0, active_bits S a₂ q w.1, no_bits_parts (halt_count p) (halt_count q) (halt_bit a) S, here)
     (active_either (no_bits (halt_count p) (halt_bit a) S) (no_bits (halt_count q) (halt_bit a₂) S))
 
-module _ {rows : List ℕ} {n : StmtNo} (run : Runnable rows n) where
+module _ {rows : List Row} {n : StmtNo} (run : Runnable rows n) where
   -- the row's two numbers
   row_halts : (a : HaltNo) (t : Stmt) → Holds rows n a t
       → (of_halt (row_at rows n).first ≡ of_halt a) × (of_halt (row_at rows n).past ≡ of_halt a + halt_count t)
@@ -268,12 +274,13 @@ placed_bits i n a (two b p q) few s k room =
     (placed_bits i n a p few s.1 k.0 (omega arith), placed_bits i n (halts_on a (halt_count p)) q few s.2 k.1 (omega arith))
 
 -- so the rows that hold it can be run
-unfoldable pub run_proper : {i o : ℕ} {t : Stmt} {rows : List ℕ} → Proper i o t → Holds rows root (halt_no 0) t → Runnable rows root
+unfoldable pub run_proper : {i o : ℕ} {t : Stmt} {rows : List Row} → Proper i o t → Holds rows root (halt_no 0) t → Runnable rows root
 run_proper {t = t} h holds =
     record {
       first = halt_no 0;
       stmt = t;
       holds = holds;
+      small = omega (arith, h.statements);
       bits = placed_bits _ _ (halt_no 0) t h.signals (proper_scoped h) (proper_numbered h) (omega (arith, h.halts));
       few = omega (arith, h.halts);
     }

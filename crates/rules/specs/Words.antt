@@ -1,25 +1,25 @@
 -- Not to be believed: what the code keeps to; the proofs check it.
 -- How the code keeps signals, halts and states: in sets of bits. "signal s at bit s"; "A state is 64 bits: bit 0 boot, bit 1+h halt h.".
-use Rattle.std.specs.Prelude.{◌≡◌, Bool, true, false, not, ◌&&◌, ◌||◌, List, ℕ, ◌+◌, ◌<◌, ◌≤◌}
+use Rattle.std.specs.Prelude.{◌≡◌, Bool, false, not, ◌&&◌, ◌||◌, List, ℕ, ◌+◌, ◌<◌, ◌≤◌}
 use Rattle.limits.specs.Limits.{max_halts}
 use Rattle.bits.specs.Bits.{has, signal_bit, boot, halt_bit, signals_in, width, whole}
 use Rattle.number.specs.declared.SignalNo.{SignalNo}
 use Rattle.number.specs.declared.HaltNo.{HaltNo}
 use Rattle.number.specs.declared.StmtNo.{StmtNo}
-use Rattle.number.specs.Counts.{halt_no, of_halt, stmt_no}
+use Rattle.number.specs.Counts.{halt_no, of_halt, stmt_no, of_stmt}
 use Rattle.number.specs.Number.{pick}
 use Rattle.sheet.specs.declared.Leaf.{Leaf}
 use Rattle.sheet.specs.declared.Leaf.TheVariants.{Nothing, Halt, Emit, Exit}
-use Rattle.sheet.specs.declared.Unary.{Unary}
-use Rattle.sheet.specs.declared.Unary.TheVariants.{Loop, Watching, Trap, Signal}
 use Rattle.sheet.specs.declared.Binary.{Binary}
 use Rattle.sheet.specs.declared.Binary.TheVariants.{Sequence, Present, Parallel}
-use Rattle.sheet.specs.Stmt.{Stmt, leaf, one, two, halt_count}
-use Rattle.sheet.specs.Rows.{Holds, halts_on}
+use Rattle.sheet.specs.Stmt.{Stmt, leaf, one, two, size, halt_count}
+use Rattle.sheet.specs.Rows.{stmt_span, Holds, halts_on}
 use Rattle.sets.specs.Words.{Low, Kept}
 use Rattle.rules.specs.declared.Yield.{Yield}
 use Rattle.rules.specs.Rules.{Signals, Halts, Outcome, idle, start, active, resume}
 use Rattle.rules.specs.States.{halts_of, react, next_state, may_end, apart, fits}
+use Rattle.sets.specs.declared.Both.{Both}
+use Rattle.sheet.specs.declared.Row.{Row}
 
 -- the halts in a state
 abbrev pub halts_in : ℕ → Halts
@@ -51,10 +51,11 @@ InBits a (one u p) = InBits a p
 InBits a (two b p q) = InBits a p × InBits (halts_on a (halt_count p)) q
 
 -- such a statement stands at row n, its halts among those that a state has bits for
-pub record Runnable (rows : List ℕ) (n : StmtNo) : Type 0 where
+pub record Runnable (rows : List Row) (n : StmtNo) : Type 0 where
   pub first : HaltNo
   pub stmt : Stmt
   pub holds : Holds rows n first stmt
+  pub small : of_stmt n + size stmt < stmt_span
   pub bits : InBits first stmt
   pub few : of_halt first + halt_count stmt ≤ max_halts
 
@@ -63,23 +64,11 @@ abbrev pub resumed : Signals → Halts → Stmt → Outcome
 resumed E H t = pick (active H t) (resume E H t) idle
 
 -- What a run of the statement at row n answers, for the set e of present signals and the state w.
-pub record Started (rows : List ℕ) (n : StmtNo) (e : ℕ) (r : Yield) : Type 0 where
+pub record Started (rows : List Row) (n : StmtNo) (e : ℕ) (r : Yield) : Type 0 where
   pub means : (a : HaltNo) (t : Stmt) → Holds rows n a t → Means r (start (signals_in e) t)
 
-pub record Resumed (rows : List ℕ) (n : StmtNo) (e w : ℕ) (r : Yield) : Type 0 where
+pub record Resumed (rows : List Row) (n : StmtNo) (e w : ℕ) (r : Yield) : Type 0 where
   pub means : (a : HaltNo) (t : Stmt) → Holds rows n a t → Means r (resumed (signals_in e) (halts_in w) t)
-
--- the statements that the rules treat apart: "Loop, signal, watching: as p. .. Trap: ..", and a parallel, both sides of which run
-abbrev pub is_trap : Unary → Bool
-is_trap Loop = false
-is_trap (Watching s) = false
-is_trap Trap = true
-is_trap (Signal s) = false
-
-abbrev pub is_parallel : Binary → Bool
-is_parallel Sequence = false
-is_parallel (Present s) = false
-is_parallel Parallel = true
 
 -- "no sequence or present has halts on both sides; where one side alone of a parallel has halts, the other has 0 in K or R": whether p and q have
 -- halts, and whether each may end
@@ -92,7 +81,7 @@ sides_fit Parallel p q ends_p ends_q = (not p || (q || ends_q)) && (not q || (p 
 abbrev pub root : StmtNo
 root = stmt_no 0
 
-pub record Reacted (rows : List ℕ) (e w : ℕ) (r : Yield) : Type 0 where
+pub record Reacted (rows : List Row) (e w : ℕ) (r : Yield) : Type 0 where
   pub means : (a : HaltNo) (t : Stmt) → Holds rows root a t → Means r (react (signals_in e) (has w) t)
 
 -- w is the next state
@@ -100,28 +89,28 @@ pub record Next (r : Yield) (w : ℕ) : Type 0 where
   pub state : (o : Outcome) → Means r o → (k : ℕ) → has w k ≡ next_state o k
 
 -- whether one of the state's halts lies inside the statement at row n
-pub record Inside (rows : List ℕ) (n : StmtNo) (w : ℕ) (r : Bool) : Type 0 where
+pub record Inside (rows : List Row) (n : StmtNo) (w : ℕ) (r : Bool) : Type 0 where
   pub answer : (a : HaltNo) (t : Stmt) → Holds rows n a t → r ≡ active (halts_in w) t
 
 -- the column has K and R of the statement at row n and of its parts
-pub record Known (rows statics : List ℕ) (n : StmtNo) : Type 0 where
+pub record Known (rows : List Row) (statics : List Both) (n : StmtNo) : Type 0 where
   pub run : Runnable rows n
   pub low : Low run.stmt
   pub kept : Kept statics n run.stmt
 
 -- whether the parts of a statement of kind b, which stand at rows m and n, may have the halts of the state w that they have
-pub record PartsFit (rows : List ℕ) (b : Binary) (m n : StmtNo) (w : ℕ) (r : Bool) : Type 0 where
+pub record PartsFit (rows : List Row) (b : Binary) (m n : StmtNo) (w : ℕ) (r : Bool) : Type 0 where
   pub answer : (a c : HaltNo) (p q : Stmt) → Holds rows m a p → Holds rows n c q
       → r ≡ sides_fit b (active (halts_in w) p) (active (halts_in w) q) (may_end p) (may_end q)
 
 -- whether the state keeps the halts inside the statement at row n apart
-pub record ToldApart (rows : List ℕ) (n : StmtNo) (w : ℕ) (r : Bool) : Type 0 where
+pub record ToldApart (rows : List Row) (n : StmtNo) (w : ℕ) (r : Bool) : Type 0 where
   pub answer : (a : HaltNo) (t : Stmt) → Holds rows n a t → r ≡ apart (halts_in w) t
 
 -- the whole sheet, whose halts are numbered from 0 on
-pub record KnownRoot (rows statics : List ℕ) : Type 0 where
+pub record KnownRoot (rows : List Row) (statics : List Both) : Type 0 where
   pub known : Known rows statics root
   pub from_zero : known.run.first ≡ halt_no 0
 
-pub record Fitted (rows : List ℕ) (w : ℕ) (r : Bool) : Type 0 where
+pub record Fitted (rows : List Row) (w : ℕ) (r : Bool) : Type 0 where
   pub answer : (t : Stmt) → Holds rows root (halt_no 0) t → r ≡ fits (has w) t

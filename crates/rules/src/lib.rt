@@ -7,19 +7,20 @@ ghost use Rattle.limits.specs.Limits.{max_halts};
 ghost use Rattle.bits.specs.Bits.{has, whole};
 ghost use Rattle.sheet.specs.Rows.{row_at};
 ghost use Rattle.sheet.specs.Stmt.{leaf};
-ghost use Rattle.sets.specs.Codes.{caught, larger};
+ghost use Rattle.sets.specs.Codes.{caught};
 ghost use Rattle.rules.specs.Rules.{Signals, Outcome, idle, followed, beside, trapped, start};
 ghost use Rattle.rules.specs.States.{no_halts_from};
 ghost use Rattle.rules.specs.Words.{Means, LeafInBits, Runnable, Started, Resumed, root, Reacted, Next, Inside, Known, ToldApart, KnownRoot, Fitted};
-ghost use Rattle.rules.specs.Words.{is_trap, is_parallel, sides_fit, PartsFit};
+ghost use Rattle.rules.specs.Words.{sides_fit, PartsFit};
 
 use bits::Bits;
 use number::{HaltNo, StmtNo};
-use sheet::{Binary, Head, Leaf, Unary};
+use sets::Both;
+use sheet::{Binary, Head, Leaf, Row, Unary};
 
 // "A statement yields emissions, a code and halts." A halt stands at its bit of the state. The code has a word of its own, since a struct without gaps is handed
 // on faster.
-#[derive(Clone, Copy)]
+#[derive(Clone, Copy, Debug, PartialEq, Eq)]
 pub struct Yield {
     pub emits: Bits,
     pub code: u64,
@@ -69,21 +70,10 @@ fn followed(a: Yield, b: Yield) -> Yield
 {
     let first = a.emits;
     let second = b.emits;
-    let halts = b.halts;
     Yield {
         emits: first.join(second),
-        code: b.code,
-        halts,
+        ..b
     }
-}
-
-fn larger(a: u64, b: u64) -> u64
-    ensures { result ≡ larger a b }
-{
-    if a < b {
-        return b;
-    }
-    a
 }
 
 // What comes of the two sides of a parallel.
@@ -93,7 +83,7 @@ fn beside(a: Yield, b: Yield) -> Yield
     let first = a.emits;
     let second = b.emits;
     let emits = first.join(second);
-    let code = larger(a.code, b.code);
+    let code = a.code.max(b.code);
     if 1 < code {
         return Yield {
             emits,
@@ -126,12 +116,9 @@ fn caught(code: u64) -> u64
 fn trapped(a: Yield) -> Yield
     ensures { (p : Outcome) → Means a p → Means result (trapped p) }
 {
-    let emits = a.emits;
-    let halts = a.halts;
     Yield {
-        emits,
         code: caught(a.code),
-        halts,
+        ..a
     }
 }
 
@@ -144,7 +131,7 @@ pub fn no_halts_from(state: Bits, h: HaltNo) -> bool
 }
 
 // Whether one of the state's halts lies inside the statement: its halts are those from its row's first to before its row's past.
-fn inside(rows: &[u64], n: StmtNo, state: Bits) -> bool
+fn inside(rows: &[Row], n: StmtNo, state: Bits) -> bool
     requires { Runnable rows.now n }
     ensures { Inside rows.now n (whole state) result }
 {
@@ -155,19 +142,8 @@ fn inside(rows: &[u64], n: StmtNo, state: Bits) -> bool
     !state.none_in(from, bits::halt_bit(past) - from)
 }
 
-fn is_trap(u: Unary) -> bool
-    ensures { result ≡ is_trap u }
-{
-    match u {
-        Unary::Loop => false,
-        Unary::Watching(_) => false,
-        Unary::Trap => true,
-        Unary::Signal(_) => false,
-    }
-}
-
 // The statement at row n, started.
-pub fn start(rows: &[u64], n: StmtNo, e: Bits) -> Yield
+pub fn start(rows: &[Row], n: StmtNo, e: Bits) -> Yield
     requires { Runnable rows.now n }
     ensures { Started rows.now n (whole e) result }
 {
@@ -177,10 +153,10 @@ pub fn start(rows: &[u64], n: StmtNo, e: Bits) -> Yield
         Head::Zero(l) => leaf(l),
         Head::One(u) => {
             let part = sheet::first_part(n);
-            if is_trap(u) {
-                return trapped(start(rows, part, e));
+            match u {
+                Unary::Trap => trapped(start(rows, part, e)),
+                _ => start(rows, part, e),
             }
-            start(rows, part, e)
         }
         Head::Two(b) => match b {
             Binary::Sequence => {
@@ -204,19 +180,9 @@ pub fn start(rows: &[u64], n: StmtNo, e: Bits) -> Yield
     }
 }
 
-fn is_parallel(b: Binary) -> bool
-    ensures { result ≡ is_parallel b }
-{
-    match b {
-        Binary::Sequence => false,
-        Binary::Present(_) => false,
-        Binary::Parallel => true,
-    }
-}
-
 // The statement at row n, in which one of the state's halts lies, resumed.
 #[cycle(resume_resume_part_resume_sides)]
-pub fn resume(rows: &[u64], n: StmtNo, e: Bits, state: Bits) -> Yield
+pub fn resume(rows: &[Row], n: StmtNo, e: Bits, state: Bits) -> Yield
     requires { Runnable rows.now n × Inside rows.now n (whole state) true }
     ensures { Resumed rows.now n (whole e) (whole state) result }
 {
@@ -231,7 +197,7 @@ pub fn resume(rows: &[u64], n: StmtNo, e: Bits, state: Bits) -> Yield
 
 // What a statement of kind u does with its one part.
 #[cycle(resume_resume_part_resume_sides)]
-fn resume_part(rows: &[u64], n: StmtNo, u: Unary, e: Bits, state: Bits) -> Yield
+fn resume_part(rows: &[Row], n: StmtNo, u: Unary, e: Bits, state: Bits) -> Yield
     requires { Runnable rows.now n × Inside rows.now n (whole state) true × ((row_at rows.now n).head ≡ Head.One u) }
     ensures { Resumed rows.now n (whole e) (whole state) result }
 {
@@ -257,17 +223,18 @@ fn resume_part(rows: &[u64], n: StmtNo, u: Unary, e: Bits, state: Bits) -> Yield
 
 // What a statement of kind b does with its two parts. A side of a parallel without a halt of the state does nothing.
 #[cycle(resume_resume_part_resume_sides)]
-fn resume_sides(rows: &[u64], n: StmtNo, b: Binary, e: Bits, state: Bits) -> Yield
+fn resume_sides(rows: &[Row], n: StmtNo, b: Binary, e: Bits, state: Bits) -> Yield
     requires { Runnable rows.now n × Inside rows.now n (whole state) true × ((row_at rows.now n).head ≡ Head.Two b) }
     ensures { Resumed rows.now n (whole e) (whole state) result }
 {
     let first = sheet::first_part(n);
     let second = sheet::second_part(rows, n);
     if !inside(rows, first, state) {
-        if is_parallel(b) {
-            return beside(idle(), resume(rows, second, e, state));
-        }
-        return resume(rows, second, e, state);
+        let q = resume(rows, second, e, state);
+        return match b {
+            Binary::Parallel => beside(idle(), q),
+            _ => q,
+        };
     }
     let p = resume(rows, first, e, state);
     match b {
@@ -288,7 +255,7 @@ fn resume_sides(rows: &[u64], n: StmtNo, b: Binary, e: Bits, state: Bits) -> Yie
 }
 
 // "Boot off starts the root; boot on resumes it, or does nothing if no halt is set."
-pub fn react(rows: &[u64], e: Bits, state: Bits) -> Yield
+pub fn react(rows: &[Row], e: Bits, state: Bits) -> Yield
     requires { Runnable rows.now root }
     ensures { Reacted rows.now (whole e) (whole state) result }
 {
@@ -314,28 +281,16 @@ pub fn next_state(r: Yield) -> Bits
 fn sides_fit(b: Binary, p: bool, q: bool, ends_p: bool, ends_q: bool) -> bool
     ensures { result ≡ sides_fit b p q ends_p ends_q }
 {
-    if is_parallel(b) {
-        if p {
-            if q {
-                return true;
-            }
-            return ends_q;
-        }
-        if q {
-            return ends_p;
-        }
-        return true;
+    match b {
+        Binary::Parallel => (!p || q || ends_q) && (!q || p || ends_p),
+        Binary::Sequence | Binary::Present(_) => !(p && q),
     }
-    if p {
-        return !q;
-    }
-    true
 }
 
 // Whether the parts of a statement of kind b, at rows `first` and `second`, may have the halts that they have.
 fn parts_fit(
-    rows: &[u64],
-    statics: &[u64],
+    rows: &[Row],
+    statics: &[Both],
     b: Binary,
     first: StmtNo,
     second: StmtNo,
@@ -356,7 +311,7 @@ fn parts_fit(
 }
 
 // What a state that fits keeps apart.
-fn apart(rows: &[u64], statics: &[u64], n: StmtNo, state: Bits) -> bool
+fn apart(rows: &[Row], statics: &[Both], n: StmtNo, state: Bits) -> bool
     requires { Known rows.now statics.now n }
     ensures { ToldApart rows.now n (whole state) result }
 {
@@ -368,19 +323,15 @@ fn apart(rows: &[u64], statics: &[u64], n: StmtNo, state: Bits) -> bool
         Head::Two(b) => {
             let first = sheet::first_part(n);
             let second = sheet::second_part(rows, n);
-            if !parts_fit(rows, statics, b, first, second, state) {
-                return false;
-            }
-            if !apart(rows, statics, first, state) {
-                return false;
-            }
-            apart(rows, statics, second, state)
+            parts_fit(rows, statics, b, first, second, state)
+                && apart(rows, statics, first, state)
+                && apart(rows, statics, second, state)
         }
     }
 }
 
 // "A state fits when: boot off means 0; only existing halts are set; .."
-pub fn fits(rows: &[u64], statics: &[u64], state: Bits) -> bool
+pub fn fits(rows: &[Row], statics: &[Both], state: Bits) -> bool
     requires { KnownRoot rows.now statics.now }
     ensures { Fitted rows.now (whole state) result }
 {
@@ -389,8 +340,5 @@ pub fn fits(rows: &[u64], statics: &[u64], state: Bits) -> bool
     }
     let root = StmtNo::new(0);
     let row = sheet::row_at(rows, root);
-    if !no_halts_from(state, row.past) {
-        return false;
-    }
-    apart(rows, statics, root, state)
+    no_halts_from(state, row.past) && apart(rows, statics, root, state)
 }

@@ -15,7 +15,7 @@ use Rattle.number.specs.declared.SignalNo.{SignalNo}
 use Rattle.bits.specs.Bits.{has, signals_in}
 use Rattle.bits.proofs.Laws.{empty}
 use Rattle.cells.specs.declared.Cell.{Cell}
-use Rattle.cells.specs.declared.Cell.TheVariants.{Register}
+use Rattle.cells.specs.declared.Cell.TheVariants.{Low, High, Input, Gate, Register}
 use Rattle.cells.specs.Cells.{cell_at}
 use Rattle.cells.specs.Values.{tally, registers, before, Solves, operands_of, next_of}
 use Rattle.run.specs.Words.{outputs_of}
@@ -24,8 +24,13 @@ use Rattle.cells.proofs.Counting.{one_more, operands_append, one_length}
 use Rattle.run.proofs.Counting.{Counted, counted_none, counted_next, counted_room, counted_all}
 
 -- a cell that is no register leaves the operands as they are ..
-pub not_kept : (l : List ℕ) (k : ℕ) (c : Cell) → operands_of (c ∷ []) ≡ [] → (k ≡ tally c k) × (l ≡ sets l k (operands_of (c ∷ [])))
-not_kept l k c none = (omega (arith, one_length c k, ap length none), rw none refl)
+pub not_kept : (l : List ℕ) (k : ℕ) (c : Cell) → ((x : CellNo) → c ≡ Register x → ⊥) → (k ≡ tally c k) × (l ≡ sets l k (operands_of (c ∷ [])))
+unfolding operands_of
+not_kept l k Low other = (refl, refl)
+not_kept l k High other = (refl, refl)
+not_kept l k (Input s) other = (refl, refl)
+not_kept l k (Gate g x y) other = (refl, refl)
+not_kept l k (Register x) other = absurd (other x refl)
 
 -- .. and a register adds its own
 pub one_kept : (l : List ℕ) (k : ℕ) {c : Cell} {x : CellNo} {n : ℕ} → c ≡ Register x → n ≡ of_cell x

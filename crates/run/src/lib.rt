@@ -13,7 +13,8 @@ ghost use Rattle.cells.specs.Needs.{pins_of, Among};
 ghost use Rattle.cells.specs.Values as Values;
 ghost use Rattle.cells.specs.Values.{value, Solves, operands_of};
 ghost use Rattle.run.specs.Words.{event_ok, state_ok, outputs_of};
-ghost use Rattle.run.specs.React.{nets_in, Ready, HasSignals, Numbered, fed, Numberable, Numbers, Clockable, Clock};
+ghost use Rattle.run.specs.React as React;
+ghost use Rattle.run.specs.React.{nets_in, HasSignals, Numbered, fed, Numberable, Numbers, Clockable, Clock};
 ghost use Rattle.run.specs.Many.{events_ok, Room, Ran};
 
 use bits::Bits;
@@ -25,10 +26,7 @@ fn event_ok(i: u32, event: Bits) -> bool
     requires { i < max_signals }
     ensures { result ≡ event_ok i (whole event) }
 {
-    if event.member(bits::TICK) {
-        return false;
-    }
-    event.none_from(1 + i)
+    !event.member(bits::TICK) && event.none_from(1 + i)
 }
 
 // Whether there are whole events, and each of them has nothing but the inputs 1 to i.
@@ -39,13 +37,10 @@ pub fn events_ok(i: u32, events: &[u64]) -> bool
     if !bits::is_whole(events) {
         return false;
     }
-    let n = bits::count(events);
-    let mut j: usize = 0;
-    while j < n {
+    for j in 0..bits::count(events) {
         if !event_ok(i, Bits::read(events, j)) {
             return false;
         }
-        j += 1;
     }
     true
 }
@@ -63,14 +58,11 @@ fn with_operand(operands: &mut [u16], k: usize, c: Cell) -> usize
     ensures { (result ≡ Values.tally c k) × (operands.new ≡ sets operands.old k (operands_of (c ∷ []))) }
 {
     match c {
-        Cell::Low => k,
-        Cell::High => k,
-        Cell::Input(_) => k,
-        Cell::Gate(_, _, _) => k,
         Cell::Register(x) => {
             operands[k] = x.number();
             k + 1
         }
+        _ => k,
     }
 }
 
@@ -80,12 +72,9 @@ pub fn number_registers(cells: &[u64], places: &mut [u16], operands: &mut [u16])
     ensures { Numbers (cells_of cells.now) places.new operands.new result }
 {
     let mut k: usize = 0;
-    let mut i = 0;
-    while i < cells.len() {
-        let c = cells::cell_at(cells, CellNo::new(i as u16));
+    for (i, w) in cells.iter().enumerate() {
         places[i] = k as u16;
-        k = with_operand(operands, k, c);
-        i += 1;
+        k = with_operand(operands, k, cells::cell_in(*w));
     }
     k
 }
@@ -112,94 +101,92 @@ fn value_of(c: Cell, bit: u16, state: Bits, event: Bits, values: &[bool]) -> boo
     }
 }
 
-// The values of all cells in one clock, the one solution of their equations, in the order found once.
-fn settle(
-    cells: &[u64],
-    order: &[u16],
-    places: &[u16],
-    state: Bits,
-    event: Bits,
-    values: &mut [bool],
-)
-    requires { Ready (cells_of cells.now) order.now values.old × Numbered (cells_of cells.now) places.now }
-    ensures { Solves (signals_in (whole event)) (has (whole state)) (cells_of cells.now) (nets_in values.new) }
-{
-    let mut j = 0;
-    while j < cells.len() {
-        let x = order[j] as usize;
-        let v = value_of(cells::cell_in(cells[x]), places[x], state, event, values);
-        values[x] = v;
-        j += 1;
-    }
-}
-
 // w, with k where it is on.
 fn with_bit(w: Bits, k: u32, on: bool) -> Bits
     requires { k < width }
     ensures { (j : ℕ) → has (whole result) j ≡ (has (whole w) j || (eqb j k && on)) }
 {
-    if on {
-        return w.add(k);
-    }
-    w
+    if on { w.add(k) } else { w }
 }
 
-// The outputs that are present.
-fn outputs(values: &[bool], i: u32, o: u32) -> Bits
-    requires { HasSignals i o (length values.now) }
-    ensures { (s : SignalNo) → signals_in (whole result) s ≡ outputs_of i o (nets_in values.now) s }
-{
-    let mut w = Bits::empty();
-    let mut s = 1 + i;
-    while s <= i + o {
-        w = with_bit(w, s, values[1 + s as usize]);
-        s += 1;
-    }
-    w
+// A netlist made ready for its clocks: an order of its cells, the bit that each is, if it is a register, and the registers' operands. It was judged and
+// ordered and its registers were numbered before, so that each clock costs no more than these methods.
+#[derive(Clone, Copy, Debug, PartialEq, Eq)]
+pub struct Ready<'a> {
+    pub cells: &'a [u64],
+    pub order: &'a [u16],
+    pub places: &'a [u16],
+    pub operands: &'a [u16],
+    pub inputs: u32,
+    pub outputs: u32,
 }
 
-// The next state: the values of the registers' operands, each at its bit.
-fn next_state(operands: &[u16], values: &[bool]) -> Bits
-    requires { (length operands.now ≤ max_registers) × ((b : ℕ) → b < length operands.now → get_or operands.now b 0 < length values.now) }
-    ensures { (b : ℕ) → has (whole result) b ≡ fed operands.now (nets_in values.now) b }
-{
-    let mut w = Bits::empty();
-    let mut k = 0;
-    while k < operands.len() {
-        w = with_bit(w, k as u32, values[operands[k] as usize]);
-        k += 1;
+impl<'a> Ready<'a> {
+    // The values of all cells in one clock, the one solution of their equations, in the order found once.
+    fn settle(&self, state: Bits, event: Bits, values: &mut [bool])
+        requires { React.Ready (cells_of self.now.cells.now) self.now.order.now values.old × Numbered (cells_of self.now.cells.now) self.now.places.now }
+        ensures { Solves (signals_in (whole event)) (has (whole state)) (cells_of self.now.cells.now) (nets_in values.new) }
+    {
+        for n in &self.order[..self.cells.len()] {
+            let x = *n as usize;
+            let v = value_of(
+                cells::cell_in(self.cells[x]),
+                self.places[x],
+                state,
+                event,
+                values,
+            );
+            values[x] = v;
+        }
     }
-    w
-}
 
-// A clock for each event, each from the state after the one before. It was judged and ordered and its registers were numbered before, so that each clock costs no
-// more than this. The outputs and the states go to the first places of the lent slices; the last state comes back.
-pub fn clocks(
-    cells: &[u64],
-    order: &[u16],
-    places: &[u16],
-    operands: &[u16],
-    i: u32,
-    o: u32,
-    state: Bits,
-    events: &[u64],
-    values: &mut [bool],
-    signals: &mut [u64],
-    states: &mut [u64],
-) -> Bits
-    requires { Clockable i o (cells_of cells.now) order.now places.now operands.now values.old × Room events.now signals.old states.old }
-    ensures { Ran (Clock i o (cells_of cells.now)) (whole state) events.now
-        signals.old signals.new states.old states.new (whole result) }
-{
-    let n = bits::count(events);
-    let mut last = state;
-    let mut j: usize = 0;
-    while j < n {
-        settle(cells, order, places, last, Bits::read(events, j), values);
-        outputs(values, i, o).write(signals, j);
-        last = next_state(operands, values);
-        last.write(states, j);
-        j += 1;
+    // The outputs that are present.
+    fn shown(&self, values: &[bool]) -> Bits
+        requires { HasSignals self.now.inputs self.now.outputs (length values.now) }
+        ensures { (s : SignalNo) → signals_in (whole result) s ≡ outputs_of self.now.inputs self.now.outputs (nets_in values.now) s }
+    {
+        let mut w = Bits::empty();
+        for s in 1 + self.inputs..1 + self.inputs + self.outputs {
+            w = with_bit(w, s, values[1 + s as usize]);
+        }
+        w
     }
-    last
+
+    // The next state: the values of the registers' operands, each at its bit.
+    fn next_state(&self, values: &[bool]) -> Bits
+        requires { (length self.now.operands.now ≤ max_registers)
+            × ((b : ℕ) → b < length self.now.operands.now → get_or self.now.operands.now b 0 < length values.now) }
+        ensures { (b : ℕ) → has (whole result) b ≡ fed self.now.operands.now (nets_in values.now) b }
+    {
+        let mut w = Bits::empty();
+        for (k, x) in self.operands.iter().enumerate() {
+            w = with_bit(w, k as u32, values[*x as usize]);
+        }
+        w
+    }
+
+    // A clock for each event, each from the state after the one before. The outputs and the states go to the first places of the lent slices; the last state
+    // comes back.
+    pub fn clocks(
+        &self,
+        state: Bits,
+        events: &[u64],
+        values: &mut [bool],
+        signals: &mut [u64],
+        states: &mut [u64],
+    ) -> Bits
+        requires { Clockable self.now.inputs self.now.outputs (cells_of self.now.cells.now)
+            self.now.order.now self.now.places.now self.now.operands.now values.old × Room events.now signals.old states.old }
+        ensures { Ran (Clock self.now.inputs self.now.outputs (cells_of self.now.cells.now)) (whole state) events.now
+            signals.old signals.new states.old states.new (whole result) }
+    {
+        let mut last = state;
+        for j in 0..bits::count(events) {
+            self.settle(last, Bits::read(events, j), values);
+            self.shown(values).write(signals, j);
+            last = self.next_state(values);
+            last.write(states, j);
+        }
+        last
+    }
 }

@@ -20,6 +20,7 @@ use Rattle.sheet.proofs.Walk.{first_of, past_of}
 use Rattle.sets.specs.Codes.{Codes, empty, same, join, when, maxima, replaced, less0, with0, caught_codes}
 use Rattle.sets.specs.Static.{K, R, has_halts}
 use Rattle.sets.specs.Words.{Low}
+use Rattle.sheet.specs.declared.Row.{Row}
 
 -- every code of A is below n
 abbrev pub Bounded : ℕ → Codes → Type 0
@@ -171,7 +172,7 @@ halts_counted (two b p q) = rw (halts_counted p, halts_counted q) (either (halt_
     either (suc m) n = rw (lt-ltb 0 (suc m) (omega arith), lt-ltb 0 (suc m + n) (omega arith))
 
 -- .. and its row says so
-pub halts_row : (rows : List ℕ) (n : StmtNo) (a : HaltNo) (t : Stmt) → Holds rows n a t
+pub halts_row : (rows : List Row) (n : StmtNo) (a : HaltNo) (t : Stmt) → Holds rows n a t
     → ltb (of_halt (row_at rows n).first) (of_halt (row_at rows n).past) ≡ has_halts t
 halts_row rows n a t h = rw (first_of rows n a t h, past_of rows n a t h) (go (halt_count t) refl)
   where

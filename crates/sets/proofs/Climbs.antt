@@ -14,8 +14,6 @@ use Rattle.sheet.specs.declared.Unary.TheVariants.{Loop, Watching, Trap, Signal}
 use Rattle.sheet.specs.declared.Binary.TheVariants.{Sequence, Present, Parallel}
 use Rattle.sheet.specs.Stmt.{Stmt, leaf, one, two, size}
 use Rattle.sheet.specs.Read.{further}
-use Rattle.sets.specs.declared.Found.{Found}
-use Rattle.sets.specs.declared.Found.TheVariants.{At, Clear}
 use Rattle.sets.specs.Codes.{Codes, empty, join, when, upto, maxima, replaced, with0, caught_codes}
 use Rattle.sets.specs.Static.{K, R}
 use Rattle.sets.specs.Faults.{or_else, Climb, through, behind, looped, besides, climbs, first_fault, twice}
@@ -25,6 +23,7 @@ use Rattle.sets.specs.Leads.{leads_right, first_led}
 use Rattle.number.proofs.Bools.{taut}
 use Rattle.sets.proofs.Bounds.{Bounded, bounded_join, bounded_when, bounded_maxima, bounded_replaced, bounded_more}
 use Rattle.sets.proofs.Bounds.{bounded_caught, K_low, R_low}
+use Rattle.std.specs.Prelude.{Option, Some, None}
 
 -- Some code below n: of sets that agree there, of a join, of a set that is there only where b holds, of one without the code n.
 some_alike : (n : ℕ) (A B : Codes) → ((j : ℕ) → j < n → A j ≡ B j) → some n A ≡ some n B
@@ -186,9 +185,9 @@ loop_climb fault starts C B F =
     regroup = taut 5 0 _ _ _ tt
 
 -- the first climb that is at fault, or comes with a code of F and without a wall
-unfoldable first_meeting : Codes → List Climb → Found
-first_meeting F [] = Clear
-first_meeting F (c ∷ cs) = pick (c.fault || (c.starts && meet max_codes c.codes F)) (At c.at) (first_meeting F cs)
+unfoldable first_meeting : Codes → List Climb → Option StmtNo
+first_meeting F [] = None
+first_meeting F (c ∷ cs) = pick (c.fault || (c.starts && meet max_codes c.codes F)) (Some c.at) (first_meeting F cs)
 
 unfoldable AllLow : List Climb → Type 0
 AllLow [] = Unit
@@ -204,7 +203,7 @@ first_behind : (p : Stmt) (F : Codes) (cs : List Climb) → first_meeting F (map
 unfolding first_meeting
 first_behind p F [] = refl
 first_behind p F (c ∷ cs) =
-    λ i. pick (c.fault || behind_climb (K p 0) c.starts c.codes F i) (At c.at) (first_behind p F cs i)
+    λ i. pick (c.fault || behind_climb (K p 0) c.starts c.codes F i) (Some c.at) (first_behind p F cs i)
 
 first_looped : (p : Stmt) (F : Codes) (cs : List Climb) → first_meeting F (map (looped p) cs) ≡ first_meeting (with0 F) cs
 unfolding first_meeting
@@ -217,8 +216,8 @@ first_append F [] ys = refl
 first_append F (c ∷ cs) ys = rw (first_append F cs ys) (go (c.fault || (c.starts && meet max_codes c.codes F)))
   where
     go : (b : Bool)
-        → pick b (At c.at) (or_else (first_meeting F cs) (first_meeting F ys))
-        ≡ or_else (pick b (At c.at) (first_meeting F cs)) (first_meeting F ys)
+        → pick b (Some c.at) (or_else (first_meeting F cs) (first_meeting F ys))
+        ≡ or_else (pick b (Some c.at) (first_meeting F cs)) (first_meeting F ys)
     go true = refl
     go false = refl
 
@@ -307,7 +306,7 @@ led_climbs F n (two Parallel p q) low =
     let rest =
     (λ i. or_else (left i) (right i))
     ∙ sym (first_append F (map (through (besides q)) (climbs n₁ p)) (map (through (besides p)) (climbs n₂ q))) in
-    λ i. pick (meet max_codes (R (two Parallel p q)) F) (At n) (rest i)
+    λ i. pick (meet max_codes (R (two Parallel p q)) F) (Some n) (rest i)
 
 -- with no code to meet, that is the first at fault
 meet_empty : (C : Codes) → meet max_codes C empty ≡ false

@@ -1,14 +1,17 @@
 -- Words as sets of codes, taken apart bit by bit: what each function on words does to the sets, for any words.
 use mathlib.Core.Path.{◌≡◌, refl, sym, ap, ◌∙◌, fun_ext}
-use mathlib.Core.Bool.{Bool, true, false, ◌&&◌, ◌||◌, or-false, and-true, and-false}
+use mathlib.Core.Bool.{Bool, true, false, not, ◌&&◌, ◌||◌, or-true, or-false, and-true, and-false}
 use Prim.Native.Nat.{ℕ, zero, suc, ◌+◌, ◌-◌, ◌*◌, ◌/◌, ◌%◌, ◌^◌, ◌<◌}
 use native.Mathlib.Omega.{arith}
 use lib.Dec.{eqb}
 use native.Mathlib.Decide.{ℕ_discrete}
+use lib.Bits.{bit_and, and_le_l}
 use lib.Pow.{shr-shr, pow_pos}
+use native.Mathlib.Nat.{lt_of_le_of_lt}
 use borrow.Author.Tests.{eq-eqb, ne_eqb}
 use Rattle.bits.specs.Bits.{has}
 use Rattle.bits.proofs.Laws.{empty as has_empty}
+use Rattle.bits.proofs.None.{has_meet}
 use Rattle.sets.specs.Codes.{Codes, empty, same, upto, replaced, less0, with0, caught_codes}
 use Rattle.sets.specs.Leads.{some, both, meet, downto, UpTo, at_least}
 
@@ -126,26 +129,27 @@ low_not a b e = go (ℕ_discrete (a % 2) 1)
 half_small : (a n : ℕ) → a < 2 ^ suc n → a / 2 < 2 ^ n
 half_small a n h = omega arith
 
--- a common code of a and b: a is empty, both have 0, or not both
-some_none : (n : ℕ) (A : Codes) → ((j : ℕ) → A j ≡ false) → some n A ≡ false
+-- a word below 2 ^ n has a code below n unless it is 0
+low_or_rest : (w : ℕ) → (eqb (w % 2) 1 || not (eqb (w / 2) 0)) ≡ not (eqb w 0)
+low_or_rest w = go (ℕ_discrete w 0) (ℕ_discrete (w % 2) 1)
+  where
+    go : Dec (w ≡ 0) → Dec (w % 2 ≡ 1) → (eqb (w % 2) 1 || not (eqb (w / 2) 0)) ≡ not (eqb w 0)
+    go (yes e) d = rw e
+    go (no n) (yes odd) = rw (eq-eqb (w % 2) 1 odd, ne_eqb w 0 n)
+    go (no n) (no even) = rw (ne_eqb (w / 2) 0 (λ q. n (omega arith)), ne_eqb w 0 n) (or-true (eqb (w % 2) 1))
+
+some_word : (n w : ℕ) → w < 2 ^ n → some n (has w) ≡ not (eqb w 0)
 unfolding some
-some_none zero A none = refl
-some_none (suc n) A none = rw (none 0) (some_none n (λ j. A (suc j)) (λ j. none (suc j)))
+some_word zero w h = let nothing : w ≡ 0 = omega arith in rw nothing
+some_word (suc n) w h =
+    ap (λ (x : Bool). x || some n (λ j. has w (suc j))) (has_zero w) ∙ ap (λ (A : Codes). eqb (w % 2) 1 || some n A) (sym (has_half w))
+    ∙ ap (λ (x : Bool). eqb (w % 2) 1 || x) (some_word n (w / 2) (half_small w n h)) ∙ low_or_rest w
 
-pub meet_none : (b n : ℕ) → false ≡ meet n (has 0) (has b)
+-- so a and b have a common code unless no bit is in both
+pub meet_word : (a b n : ℕ) → a < 2 ^ n → not (eqb (bit_and a b) 0) ≡ meet n (has a) (has b)
 unfolding meet
-meet_none b n = sym (some_none n (both (has 0) (has b)) λ j. rw (has_empty j))
-
-pub meet_low : (a b : ℕ) → a % 2 + b % 2 ≡ 2 → (n : ℕ) → a < 2 ^ n → true ≡ meet n (has a) (has b)
-unfolding meet some
-meet_low a b e zero h = absurd (omega arith)
-meet_low a b e (suc n) h = rw (low_both a b e)
-
-pub meet_rest : (a b : ℕ) (r : Bool) → (a ≡ 0 → ⊥) → (a % 2 + b % 2 ≡ 2 → ⊥)
-    → ((n : ℕ) → a / 2 < 2 ^ n → r ≡ meet n (has (a / 2)) (has (b / 2))) → (n : ℕ) → a < 2 ^ n → r ≡ meet n (has a) (has b)
-unfolding meet some
-meet_rest a b r some_code e rest zero h = absurd (some_code (omega arith))
-meet_rest a b r some_code e rest (suc n) h = rw (low_not a b e) (rest n (half_small a n h) ∙ rw (has_half a, has_half b))
+meet_word a b n h =
+    sym (some_word n (bit_and a b) (lt_of_le_of_lt (and_le_l a b) h)) ∙ ap (λ (A : Codes). some n A) (fun_ext (has_meet a b))
 
 -- the codes up to a common one
 downto_none : (n : ℕ) (A : Codes) → ((j : ℕ) → A j ≡ false) → (j : ℕ) → downto n A j ≡ false

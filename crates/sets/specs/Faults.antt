@@ -1,26 +1,24 @@
 -- INSTANT and TWICE, each with the statement's number that is its place.
-use Rattle.std.specs.Prelude.{Bool, true, false, ◌&&◌, ◌||◌, List, [], ◌∷◌, ◌++◌, map, ◌+◌}
+use Rattle.std.specs.Prelude.{Bool, true, false, ◌&&◌, ◌||◌, List, [], ◌∷◌, ◌++◌, map, ◌+◌, Option, Some, None}
 use Rattle.number.specs.declared.StmtNo.{StmtNo}
 use Rattle.number.specs.Number.{pick}
 use Rattle.sheet.specs.declared.Unary.TheVariants.{Loop, Watching, Trap, Signal}
 use Rattle.sheet.specs.declared.Binary.TheVariants.{Sequence, Present, Parallel}
 use Rattle.sheet.specs.Stmt.{Stmt, leaf, one, two, size}
 use Rattle.sheet.specs.Read.{further}
-use Rattle.sets.specs.declared.Found.{Found}
-use Rattle.sets.specs.declared.Found.TheVariants.{At, Clear}
 use Rattle.sets.specs.Codes.{Codes, join, when, maxima, replaced, caught_codes}
 use Rattle.sets.specs.Static.{K, R}
 
 -- the first that is found
-unfoldable pub or_else : Found → Found → Found
-or_else (At n) f = At n
-or_else Clear f = f
+unfoldable pub or_else : Option StmtNo → Option StmtNo → Option StmtNo
+or_else (Some n) f = Some n
+or_else None f = f
 
 -- "INSTANT: some loop has 0 in K(p)", the "first such loop's number"; t has the number n
-unfoldable pub instant : StmtNo → Stmt → Found
+unfoldable pub instant : StmtNo → Stmt → Option StmtNo
 unfolding K size or_else pick
-instant n (leaf l) = Clear
-instant n (one Loop p) = pick (K p 0) (At n) (instant (further n 1) p)
+instant n (leaf l) = None
+instant n (one Loop p) = pick (K p 0) (Some n) (instant (further n 1) p)
 instant n (one (Watching s) p) = instant (further n 1) p
 instant n (one Trap p) = instant (further n 1) p
 instant n (one (Signal s) p) = instant (further n 1) p
@@ -72,11 +70,11 @@ climbs n (two Parallel p q) =
     ∷ (map (through (besides q)) (climbs (further n 1) p) ++ map (through (besides p)) (climbs (further n (1 + size p)) q))
 
 -- the "first such X"
-unfoldable pub first_fault : List Climb → Found
+unfoldable pub first_fault : List Climb → Option StmtNo
 unfolding pick
-first_fault [] = Clear
-first_fault (c ∷ cs) = pick c.fault (At c.at) (first_fault cs)
+first_fault [] = None
+first_fault (c ∷ cs) = pick c.fault (Some c.at) (first_fault cs)
 
-unfoldable pub twice : StmtNo → Stmt → Found
+unfoldable pub twice : StmtNo → Stmt → Option StmtNo
 unfolding first_fault climbs
 twice n t = first_fault (climbs n t)

@@ -1,7 +1,7 @@
 -- Not to be believed: what the code keeps to; the proofs check it.
 -- TWICE from the root down: instead of climbing from each X with its codes, go down with the codes that lead to the fault from here up. The
 -- climb of each code is its own, so the two find the same X (`led_twice`).
-use Rattle.std.specs.Prelude.{Bool, true, false, ◌&&◌, ◌||◌, ◌≡◌, ℕ, zero, suc, ◌+◌, ◌^◌, ◌<◌, ltb}
+use Rattle.std.specs.Prelude.{Bool, true, false, ◌&&◌, ◌||◌, ◌≡◌, ℕ, zero, suc, ◌+◌, ◌^◌, ◌<◌, ltb, Option, Some, None}
 use Rattle.limits.specs.Limits.{max_codes}
 use Rattle.bits.specs.Bits.{has}
 use Rattle.number.specs.declared.StmtNo.{StmtNo}
@@ -14,8 +14,6 @@ use Rattle.sheet.specs.declared.Head.{Head}
 use Rattle.sheet.specs.declared.Head.TheVariants.{Zero, One, Two}
 use Rattle.sheet.specs.Stmt.{Stmt, leaf, one, two, size}
 use Rattle.sheet.specs.Read.{further}
-use Rattle.sets.specs.declared.Found.{Found}
-use Rattle.sets.specs.declared.Found.TheVariants.{At, Clear}
 use Rattle.sets.specs.Codes.{Codes, join, when, upto, with0}
 use Rattle.sets.specs.Static.{K, R}
 use Rattle.sets.specs.Faults.{or_else}
@@ -100,9 +98,9 @@ is_x (Two (Present s)) = false
 is_x (Two Parallel) = true
 
 -- the first X of the statement with the number n that has a code of F in its R, F being what leads on from each part
-unfoldable pub first_led : Codes → StmtNo → Stmt → Found
-first_led F n (leaf l) = Clear
-first_led F n (one u p) = pick (is_x (One u) && meet max_codes (R (one u p)) F) (At n) (first_led (leads_one u F) (further n 1) p)
+unfoldable pub first_led : Codes → StmtNo → Stmt → Option StmtNo
+first_led F n (leaf l) = None
+first_led F n (one u p) = pick (is_x (One u) && meet max_codes (R (one u p)) F) (Some n) (first_led (leads_one u F) (further n 1) p)
 first_led F n (two b p q) =
-    pick (is_x (Two b) && meet max_codes (R (two b p q)) F) (At n)
+    pick (is_x (Two b) && meet max_codes (R (two b p q)) F) (Some n)
     (or_else (first_led (leads_left b q F) (further n 1) p) (first_led (leads_right b p F) (further n (1 + size p)) q))

@@ -11,10 +11,11 @@ use Rattle.sheet.specs.declared.Leaf.{Leaf}
 use Rattle.sheet.specs.declared.Leaf.TheVariants.{Nothing, Halt, Emit, Exit}
 use Rattle.sheet.specs.Stmt.{Stmt, leaf, one, two, size}
 use Rattle.sheet.specs.Read.{further}
-use Rattle.sheet.specs.Rows.{Holds}
+use Rattle.sheet.specs.Rows.{stmt_span, Holds}
 use Rattle.sets.specs.declared.Both.{Both}
 use Rattle.sets.specs.Codes.{Codes}
 use Rattle.sets.specs.Static.{K, R}
+use Rattle.sheet.specs.declared.Row.{Row}
 
 -- "EXIT: level not 2..1+d", "8 traps one in another": there are so many codes, and every set of them is below this
 abbrev pub code_span : ℕ
@@ -32,10 +33,11 @@ Low (one u p) = Low p
 Low (two b p q) = Low p × Low q
 
 -- some statement stands at row n, and its exits' levels are such
-pub record Stands (rows : List ℕ) (n : StmtNo) : Type 0 where
+pub record Stands (rows : List Row) (n : StmtNo) : Type 0 where
   pub first : HaltNo
   pub stmt : Stmt
   pub holds : Holds rows n first stmt
+  pub small : of_stmt n + size stmt < stmt_span
   pub low : Low stmt
 
 -- a word whose bits are the first n codes of A
@@ -47,23 +49,31 @@ unfoldable pub word_of : ℕ → Codes → ℕ
 word_of zero A = 0
 word_of (suc n) A = digit (A 0) + 2 * word_of n (λ j. A (suc j))
 
--- a statement's entry: a bit for each code of K, then one for each of R
-unfoldable pub entry_of : Stmt → ℕ
-entry_of t = word_of max_codes (K t) + code_span * word_of max_codes (R t)
+-- what stands at a number whose statement has no entry
+abbrev pub no_sets : Both
+no_sets = record { k = 0; r = 0 }
+
+-- a statement's entry: a bit for each code of K, and for each of R
+unfoldable pub entry_of : Stmt → Both
+entry_of t = record { k = word_of max_codes (K t); r = word_of max_codes (R t) }
 
 -- the column with the entries of t and its parts put in, from the number n on
-unfoldable pub filled : List ℕ → StmtNo → Stmt → List ℕ
+unfoldable pub filled : List Both → StmtNo → Stmt → List Both
 filled statics n (leaf l) = set statics (of_stmt n) (entry_of (leaf l))
 filled statics n (one u p) = set (filled statics (further n 1) p) (of_stmt n) (entry_of (one u p))
 filled statics n (two b p q) = set (filled (filled statics (further n 1) p) (further n (1 + size p)) q) (of_stmt n) (entry_of (two b p q))
 
+-- the entry at n
+abbrev pub entry_at : List Both → StmtNo → Both
+entry_at statics n = get_or statics (of_stmt n) no_sets
+
 -- the column has the entry of t at n ..
-pub record Entered (statics : List ℕ) (n : StmtNo) (t : Stmt) : Type 0 where
+pub record Entered (statics : List Both) (n : StmtNo) (t : Stmt) : Type 0 where
   pub inside : of_stmt n < length statics
-  pub entry : get_or statics (of_stmt n) 0 ≡ entry_of t
+  pub entry : entry_at statics n ≡ entry_of t
 
 -- .. and those of its parts after it
-unfoldable pub Kept : List ℕ → StmtNo → Stmt → Type 0
+unfoldable pub Kept : List Both → StmtNo → Stmt → Type 0
 Kept statics n (leaf l) = Entered statics n (leaf l)
 Kept statics n (one u p) = Entered statics n (one u p) × Kept statics (further n 1) p
 Kept statics n (two b p q) = Entered statics n (two b p q) × Kept statics (further n 1) p × Kept statics (further n (1 + size p)) q
@@ -73,18 +83,12 @@ pub record Means (b : Both) (t : Stmt) : Type 0 where
   pub starts : has b.k ≡ K t
   pub resumes : has b.r ≡ R t
 
--- the entry of two words was written, and they were handed back
-pub record Wrote (n : StmtNo) (b r : Both) (before after : List ℕ) : Type 0 where
+-- an entry was written, and handed back
+pub record Wrote (n : StmtNo) (b r : Both) (before after : List Both) : Type 0 where
   pub same : r ≡ b
-  pub entry : after ≡ set before (of_stmt n) (b.k + code_span * b.r)
+  pub entry : after ≡ set before (of_stmt n) b
 
 -- what a walk that fills the column answers and leaves
-pub record Filled (n : StmtNo) (t : Stmt) (b : Both) (before after : List ℕ) : Type 0 where
+pub record Filled (n : StmtNo) (t : Stmt) (b : Both) (before after : List Both) : Type 0 where
   pub answer : Means b t
   pub column : after ≡ filled before n t
-
--- what the entry at n says, where it is that of a statement
-pub record Reads (statics : List ℕ) (n : StmtNo) (b : Both) : Type 0 where
-  pub k_small : b.k < code_span
-  pub r_small : b.r < code_span
-  pub means : (t : Stmt) → Low t → Entered statics n t → Means b t

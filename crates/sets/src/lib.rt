@@ -1,5 +1,5 @@
 // The static sets K and R of every statement, and the first statement at fault. A set of codes is a word with the codes as its bits;
-// `statics` is the column of all K and R.
+// `statics` is the column of all K and R. It goes apart from the rows, since `fill` writes it while it reads them, and `given` and `may_end` need it alone.
 #![tactic(auto)]
 
 ghost use Rattle.std.specs.Prelude.{◌≡◌, ◌&&◌, ◌||◌, ℕ, ◌^◌, ◌<◌, ◌≤◌, length};
@@ -11,28 +11,33 @@ ghost use Rattle.sheet.specs.declared.Binary.{Binary};
 ghost use Rattle.sets.specs.Codes.{join, when, maxima, replaced, less0, with0, caught_codes};
 ghost use Rattle.sets.specs.Static.{K, R, has_halts};
 ghost use Rattle.sets.specs.Faults.{instant, twice};
-ghost use Rattle.sets.specs.Words.{code_span, LowLeaf, Low, Stands, Entered, Kept, Means, Wrote, Filled, Reads};
+ghost use Rattle.sets.specs.Words.{code_span, no_sets, entry_at, LowLeaf, Low, Stands, Entered, Kept, Means, Wrote, Filled};
 ghost use Rattle.sets.specs.Leads.{meet, UpTo, at_least, leads_sequence, leads_trap, leads_parallel, leads_one, leads_left, leads_right};
 ghost use Rattle.sets.specs.Leads.{is_loop, is_x, first_led};
 
 use number::StmtNo;
-use sheet::{Binary, Head, Leaf, Unary};
+use sheet::{Binary, Head, Leaf, Row, Unary};
 
-// A statement that is at fault, or that there is none.
-#[derive(Clone, Copy)]
-pub enum Found {
-    At(StmtNo),
-    Clear,
-}
-
-// Every set of codes is below it, so K and R of a statement stand side by side in one word of the column.
+// Every set of codes is below it.
 const CODE_SPAN: u64 = 1 << limits::MAX_CODES;
 
 // K and R of a statement.
-#[derive(Clone, Copy)]
+#[derive(Clone, Copy, Debug, PartialEq, Eq)]
 pub struct Both {
     pub k: u64,
     pub r: u64,
+}
+
+impl Both {
+    // What stands at a number whose statement has no entry.
+    pub fn empty() -> Both
+        ensures { result ≡ no_sets }
+    {
+        Both {
+            k: bits::EMPTY,
+            r: bits::EMPTY,
+        }
+    }
 }
 
 // a less 0.
@@ -103,13 +108,7 @@ fn maxima_of(a: u64, b: u64) -> u64
 fn meets(a: u64, b: u64) -> bool
     ensures { (n : ℕ) → a < 2 ^ n → result ≡ meet n (has a) (has b) }
 {
-    if a == 0 {
-        return false;
-    }
-    if a % 2 + b % 2 == 2 {
-        return true;
-    }
-    meets(a / 2, b / 2)
+    a & b != 0
 }
 
 // The codes up to the largest that a and b have in common.
@@ -176,10 +175,7 @@ fn one_sets(u: Unary, halts: bool, p: Both) -> Both
 fn ends(b: Both) -> bool
     ensures { result ≡ (has b.k 0 || has b.r 0) }
 {
-    if bits::member(b.k, 0) {
-        return true;
-    }
-    bits::member(b.r, 0)
+    bits::member(b.k, 0) || bits::member(b.r, 0)
 }
 
 // R of a parallel.
@@ -211,17 +207,16 @@ fn two_sets(b: Binary, p: Both, q: Both) -> Both
 }
 
 // Writes the entry of statement n, and hands it back.
-fn entered(statics: &mut [u64], n: StmtNo, b: Both) -> Both
-    requires { (of_stmt n < length statics.old) × (b.k < code_span) × (b.r < code_span) }
+fn entered(statics: &mut [Both], n: StmtNo, b: Both) -> Both
+    requires { of_stmt n < length statics.old }
     ensures { Wrote n b result statics.old statics.new }
 {
-    let i = n.number() as usize;
-    statics[i] = b.k + CODE_SPAN * b.r;
+    statics[n.number() as usize] = b;
     b
 }
 
 // K and R of the statement n and of all its parts, in one pass: each goes into the column, where later walks read it.
-pub fn fill(rows: &[u64], statics: &mut [u64], n: StmtNo) -> Both
+pub fn fill(rows: &[Row], statics: &mut [Both], n: StmtNo) -> Both
     requires { Stands rows.now n × (length rows.now ≤ length statics.old) }
     ensures { (s : Stands rows.now n) → Filled n s.stmt result statics.old statics.new }
 {
@@ -244,19 +239,15 @@ pub fn fill(rows: &[u64], statics: &mut [u64], n: StmtNo) -> Both
 }
 
 // The entry of statement n.
-pub fn sets_of(statics: &[u64], n: StmtNo) -> Both
+pub fn sets_of(statics: &[Both], n: StmtNo) -> Both
     requires { of_stmt n < length statics.now }
-    ensures { Reads statics.now n result }
+    ensures { result ≡ entry_at statics.now n }
 {
-    let i = n.number() as usize;
-    Both {
-        k: statics[i] % CODE_SPAN,
-        r: statics[i] / CODE_SPAN % CODE_SPAN,
-    }
+    statics[n.number() as usize]
 }
 
 // K or R of statement n: the codes that it may give.
-pub fn given(statics: &[u64], n: StmtNo) -> u64
+pub fn given(statics: &[Both], n: StmtNo) -> u64
     requires { of_stmt n < length statics.now }
     ensures { (t : Stmt) → Low t → Entered statics.now n t → has result ≡ join (K t) (R t) }
 {
@@ -265,36 +256,22 @@ pub fn given(statics: &[u64], n: StmtNo) -> u64
 }
 
 // Whether statement n has 0 in K or R.
-pub fn may_end(statics: &[u64], n: StmtNo) -> bool
+pub fn may_end(statics: &[Both], n: StmtNo) -> bool
     requires { of_stmt n < length statics.now }
     ensures { (t : Stmt) → Low t → Entered statics.now n t → result ≡ (K t 0 || R t 0) }
 {
     ends(sets_of(statics, n))
 }
 
-fn is_loop(u: Unary) -> bool
-    ensures { result ≡ is_loop u }
-{
-    match u {
-        Unary::Loop => true,
-        Unary::Watching(_) => false,
-        Unary::Trap => false,
-        Unary::Signal(_) => false,
-    }
-}
-
 // Whether u is a loop over a part with 0 in K.
 fn runs_on(u: Unary, k: u64) -> bool
     ensures { result ≡ (is_loop u && has k 0) }
 {
-    if is_loop(u) {
-        return bits::member(k, 0);
-    }
-    false
+    matches!(u, Unary::Loop) && bits::member(k, 0)
 }
 
 // INSTANT: the first loop at fault in statement n.
-pub fn first_instant(rows: &[u64], statics: &[u64], n: StmtNo) -> Found
+pub fn first_instant(rows: &[Row], statics: &[Both], n: StmtNo) -> Option<StmtNo>
     requires { Stands rows.now n × (length rows.now ≤ length statics.now) }
     ensures { (s : Stands rows.now n) → Kept statics.now n s.stmt → result ≡ instant n s.stmt }
 {
@@ -302,25 +279,26 @@ pub fn first_instant(rows: &[u64], statics: &[u64], n: StmtNo) -> Found
     let head = row.head;
     let first = sheet::first_part(n);
     match head {
-        Head::Zero(_) => Found::Clear,
+        Head::Zero(_) => None,
         Head::One(u) => {
             let body = sets_of(statics, first);
             if runs_on(u, body.k) {
-                return Found::At(n);
+                return Some(n);
             }
             first_instant(rows, statics, first)
         }
-        Head::Two(_) => match first_instant(rows, statics, first) {
-            Found::At(m) => Found::At(m),
-            Found::Clear => first_instant(rows, statics, sheet::second_part(rows, n)),
-        },
+        Head::Two(_) => {
+            if let Some(m) = first_instant(rows, statics, first) {
+                return Some(m);
+            }
+            first_instant(rows, statics, sheet::second_part(rows, n))
+        }
     }
 }
 
 // The codes that lead to one of f from the left of a sequence whose right has k as K.
 fn leads_sequence(k: u64, f: u64) -> u64
-    requires { k < code_span }
-    ensures { has result ≡ leads_sequence (has k) (has f) }
+    ensures { k < code_span → has result ≡ leads_sequence (has k) (has f) }
 {
     if meets(k, f) {
         return with_0(f);
@@ -337,8 +315,7 @@ fn leads_trap(f: u64) -> u64
 
 // .. from a side of a parallel whose other side is q.
 fn leads_parallel(q: Both, f: u64) -> u64
-    requires { q.r < code_span }
-    ensures { has result ≡ leads_parallel (has q.k 0 || has q.r 0) (has q.r) (has f) }
+    ensures { q.r < code_span → has result ≡ leads_parallel (has q.k 0 || has q.r 0) (has q.r) (has f) }
 {
     let with_other = bits::join(at_least(f, q.r), up_to_common(q.r, f));
     bits::join(with_other, only_if(ends(q), f))
@@ -357,8 +334,7 @@ fn leads_one(u: Unary, f: u64) -> u64
 }
 
 fn leads_left(b: Binary, q: Both, f: u64) -> u64
-    requires { (q.k < code_span) × (q.r < code_span) }
-    ensures { (v : Stmt) → Means q v → has result ≡ leads_left b v (has f) }
+    ensures { (v : Stmt) → Low v → Means q v → has result ≡ leads_left b v (has f) }
 {
     match b {
         Binary::Sequence => leads_sequence(q.k, f),
@@ -370,8 +346,7 @@ fn leads_left(b: Binary, q: Both, f: u64) -> u64
 // Into the right of a sequence they lead on as they are, since it has the codes of the whole; but none behind a left side that cannot end at once: no loop further out
 // starts what stands there.
 fn leads_right(b: Binary, p: Both, f: u64) -> u64
-    requires { p.r < code_span }
-    ensures { (t : Stmt) → Means p t → has result ≡ leads_right b t (has f) }
+    ensures { (t : Stmt) → Low t → Means p t → has result ≡ leads_right b t (has f) }
 {
     match b {
         Binary::Sequence => only_if(bits::member(p.k, 0), f),
@@ -384,35 +359,18 @@ fn leads_right(b: Binary, p: Both, f: u64) -> u64
 fn is_x(h: Head) -> bool
     ensures { result ≡ is_x h }
 {
-    match h {
-        Head::Zero(_) => false,
-        Head::One(u) => match u {
-            Unary::Loop => false,
-            Unary::Watching(_) => false,
-            Unary::Trap => false,
-            Unary::Signal(_) => true,
-        },
-        Head::Two(b) => match b {
-            Binary::Sequence => false,
-            Binary::Present(_) => false,
-            Binary::Parallel => true,
-        },
-    }
+    matches!(h, Head::One(Unary::Signal(_)) | Head::Two(Binary::Parallel))
 }
 
 // Whether it is an X with a code of f in its R.
 fn is_led(h: Head, r: u64, f: u64) -> bool
-    requires { r < code_span }
-    ensures { result ≡ (is_x h && meet max_codes (has r) (has f)) }
+    ensures { r < code_span → result ≡ (is_x h && meet max_codes (has r) (has f)) }
 {
-    if is_x(h) {
-        return meets(r, f);
-    }
-    false
+    is_x(h) && meets(r, f)
 }
 
 // The first X of statement n with a code that leads to the fault, f being the codes that lead there from n.
-fn first_led(rows: &[u64], statics: &[u64], n: StmtNo, f: u64) -> Found
+fn first_led(rows: &[Row], statics: &[Both], n: StmtNo, f: u64) -> Option<StmtNo>
     requires { Stands rows.now n × (length rows.now ≤ length statics.now) }
     ensures { (s : Stands rows.now n) → Kept statics.now n s.stmt → result ≡ first_led (has f) n s.stmt }
 {
@@ -420,28 +378,26 @@ fn first_led(rows: &[u64], statics: &[u64], n: StmtNo, f: u64) -> Found
     let head = row.head;
     let own = sets_of(statics, n);
     if is_led(head, own.r, f) {
-        return Found::At(n);
+        return Some(n);
     }
     let first = sheet::first_part(n);
     match head {
-        Head::Zero(_) => Found::Clear,
+        Head::Zero(_) => None,
         Head::One(u) => first_led(rows, statics, first, leads_one(u, f)),
         Head::Two(b) => {
             let second = sheet::second_part(rows, n);
             let q = sets_of(statics, second);
-            match first_led(rows, statics, first, leads_left(b, q, f)) {
-                Found::At(m) => Found::At(m),
-                Found::Clear => {
-                    let p = sets_of(statics, first);
-                    first_led(rows, statics, second, leads_right(b, p, f))
-                }
+            if let Some(m) = first_led(rows, statics, first, leads_left(b, q, f)) {
+                return Some(m);
             }
+            let p = sets_of(statics, first);
+            first_led(rows, statics, second, leads_right(b, p, f))
         }
     }
 }
 
 // TWICE: the first parallel or signal statement at fault in statement n.
-pub fn first_twice(rows: &[u64], statics: &[u64], n: StmtNo) -> Found
+pub fn first_twice(rows: &[Row], statics: &[Both], n: StmtNo) -> Option<StmtNo>
     requires { Stands rows.now n × (length rows.now ≤ length statics.now) }
     ensures { (s : Stands rows.now n) → Kept statics.now n s.stmt → result ≡ twice n s.stmt }
 {

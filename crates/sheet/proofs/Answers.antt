@@ -1,5 +1,5 @@
 -- What each way out of `read_stmt`, `read_root` and `read_sheet` answers: one law for each, over plain variables.
-use mathlib.Core.Path.{◌≡◌, refl, ap, ◌∙◌}
+use mathlib.Core.Path.{◌≡◌, refl, sym, ap, ◌∙◌}
 use mathlib.Core.List.{List}
 use Prim.Native.Nat.{ℕ, ◌+◌, ◌-◌, ◌<◌, ◌≤◌}
 use native.Mathlib.Omega.{arith}
@@ -10,7 +10,6 @@ use Rattle.number.specs.declared.Fault.{Fault}
 use Rattle.number.specs.declared.HaltNo.{HaltNo}
 use Rattle.number.specs.declared.SignalNo.{SignalNo}
 use Rattle.number.specs.declared.StmtNo.{StmtNo}
-use Rattle.number.specs.declared.NumberRead.TheVariants.{Value}
 use Rattle.number.specs.declared.Refusal.TheVariants.{Count, Extra}
 use Rattle.number.specs.Counts.{of_signal, halt_no, of_halt, stmt_no, of_stmt}
 use Rattle.number.specs.Number.{pick, cursor}
@@ -22,45 +21,47 @@ use Rattle.sheet.specs.declared.Binary.{Binary}
 use Rattle.sheet.specs.declared.Head.{Head}
 use Rattle.sheet.specs.declared.Head.TheVariants.{Zero, One, Two}
 use Rattle.sheet.specs.declared.Marks.{Marks}
-use Rattle.sheet.specs.declared.HeadRead.TheVariants.{Read, Refused as NoHead}
-use Rattle.sheet.specs.declared.StmtRead.{StmtRead}
-use Rattle.sheet.specs.declared.StmtRead.TheVariants.{Next, Refused as Stopped}
 use Rattle.sheet.specs.declared.Counts.{Counts}
-use Rattle.sheet.specs.declared.SheetRead.TheVariants.{Read as Accepted, Refused}
 use Rattle.sheet.specs.Stmt.{Stmt, leaf, one, two, head_of, size, halt_count, local_count}
 use Rattle.sheet.specs.Read.{Around, head_at, inside, Outcome, got, refused, and_then, further, parts, read_stmt}
 use Rattle.sheet.specs.Read.{SheetOutcome, faulty, root_around, root_marks, ended, root_read, after_outputs}
-use Rattle.sheet.specs.Rows.{row_of, halts_on, packed, lay}
+use Rattle.sheet.specs.declared.Row.{Row}
+use Rattle.sheet.specs.Rows.{row_of, halts_on, lay}
 use Rattle.sheet.specs.Answer.{sheet_answer}
 use Rattle.sheet.specs.Contract.{stmt_answer, Laid, DidStmt, Noted, SheetLaid, DidSheet}
 use Rattle.sheet.proofs.Moved.{Moved, moved}
-use Rattle.sheet.proofs.Reading.{step, no_level, too_many, few_statements}
+use Rattle.sheet.proofs.Reading.{step, no_level, too_many}
+use Rattle.std.specs.Prelude.{Result, Ok, Err}
 
 -- an answer says its outcome: a refusal ..
-stopped_is : (n : StmtNo) (o : Outcome) {f : Fault} {r : StmtRead} → r ≡ stmt_answer n o → r ≡ Stopped f → o ≡ refused f
+stopped_is : (n : StmtNo) (o : Outcome) {f : Fault} {r : Result (StmtNo × Marks) Fault} → r ≡ stmt_answer n o → r ≡ Err f → o ≡ refused f
 unfolding stmt_answer
 stopped_is n (got t m) a b = let z : ◌≡◌ {A = ℕ} 0 1 = cc in absurd (omega arith)
 stopped_is n (refused g) a b = cc
 
 -- .. or a statement, which the rows then hold
-record Gave (n : StmtNo) (a : HaltNo) (o : Outcome) (k : StmtNo) (m : Marks) (K K' : List ℕ) : Type 0 where
+record Gave (n : StmtNo) (a : HaltNo) (o : Outcome) (k : StmtNo) (m : Marks) (K K' : List Row) : Type 0 where
   stmt : Stmt
   outcome : o ≡ got stmt m
   past : k ≡ further n (size stmt)
   rows : K' ≡ lay K n a stmt
 
-next_is : {n : StmtNo} {a : HaltNo} (o : Outcome) {k : StmtNo} {m : Marks} {r : StmtRead} {K K' : List ℕ} → DidStmt n a o r K K'
-    → r ≡ Next k m → Gave n a o k m K K'
+next_is : {n : StmtNo} {a : HaltNo} (o : Outcome) {k : StmtNo} {m : Marks} {r : Result (StmtNo × Marks) Fault} {K K' : List Row} → DidStmt n a o r K K'
+    → r ≡ Ok (k, m) → Gave n a o k m K K'
 unfolding stmt_answer Laid
 next_is {n} {a} (got t m1) {k} {m} d q =
-    let same = d.answer in
-    let marks : m1 ≡ m = cc in
-    let end : k ≡ further n (size t) = cc in
-    record { stmt = t; outcome = ap (got t) marks; past = end; rows = d.rows }
-next_is (refused f) d q = let same = d.answer in let z : ◌≡◌ {A = ℕ} 0 1 = cc in absurd (omega arith)
+    let answer = d.answer in
+    let same : (further n (size t), m1) ≡ (k, m) = cc in
+    record {
+      stmt = t;
+      outcome = ap (λ (p : StmtNo × Marks). got t p.1) same;
+      past = sym (ap (λ (p : StmtNo × Marks). p.0) same);
+      rows = d.rows;
+    }
+next_is (refused f) d q = let answer = d.answer in let z : ◌≡◌ {A = ℕ} 0 1 = cc in absurd (omega arith)
 
 -- a refusal, whatever was written before it
-did_stop : {n : StmtNo} {a : HaltNo} {o : Outcome} {f : Fault} {K K' : List ℕ} → o ≡ refused f → DidStmt n a o (Stopped f) K K'
+did_stop : {n : StmtNo} {a : HaltNo} {o : Outcome} {f : Fault} {K K' : List Row} → o ≡ refused f → DidStmt n a o (Err f) K K'
 unfolding stmt_answer Laid
 did_stop e = rw e (record { answer = refl; rows = tt })
 
@@ -70,13 +71,6 @@ further_on n j k = ap stmt_no (add_assoc (of_stmt n) j k)
 same_halts : {a b : HaltNo} → of_halt a ≡ of_halt b → a ≡ b
 same_halts e = ap halt_no e
 
--- the number past a statement that was read is at most the one past the last
-pub end_few : (left : ℕ) (s : List ℕ) (e : Around) (n : StmtNo) (m : Marks) {a : HaltNo} {k : StmtNo} {m' : Marks} {r : StmtRead}
-    {K K' : List ℕ} → DidStmt n a (read_stmt left s e n m) r K K' → r ≡ Next k m' → of_stmt k ≤ max_statements
-end_few left s e n m {m' = m'} d q =
-    let g = next_is (read_stmt left s e n m) d q in
-    rw g.past (few_statements left s e n m g.stmt m' g.outcome)
-
 -- how many halts a statement that was read passes
 halts_passed : (left : ℕ) (s : List ℕ) (e : Around) (n : StmtNo) (m m' : Marks) (t : Stmt) → read_stmt left s e n m ≡ got t m'
     → of_halt m'.halts ≡ of_halt m.halts + halt_count t
@@ -85,53 +79,53 @@ halts_passed left s e n m m' t q = ap (λ (x : HaltNo). of_halt x) (moved left s
 -- the statement n, where `left` levels are left, e holds around it and the marks m stand before it
 module _ (left : ℕ) (s : List ℕ) (e : Around) (n : StmtNo) (m : Marks) where
   -- what is answered, and what is done to the rows K
-  abbrev Did : StmtRead → List ℕ → List ℕ → Type 0
+  abbrev Did : Result (StmtNo × Marks) Fault → List Row → List Row → Type 0
   Did r K K' = DidStmt n m.halts (read_stmt left s e n m) r K K'
 
   -- no level is left
-  pub level_stop : {K K' : List ℕ} → left ≡ 0 → Did (Stopped (fault Count m.at)) K K'
+  pub level_stop : {K K' : List Row} → left ≡ 0 → Did (Err (fault Count m.at)) K K'
   level_stop none = did_stop (no_level left s e n m none)
 
   -- it is past the last statement
-  pub number_stop : {K K' : List ℕ} → max_statements ≤ of_stmt n → Did (Stopped (fault Count m.at)) K K'
+  pub number_stop : {K K' : List Row} → max_statements ≤ of_stmt n → Did (Err (fault Count m.at)) K K'
   number_stop many = did_stop (too_many left s e n m many)
 
   -- its row is put in after those of its parts
-  did_note : {end : StmtNo} {m' : Marks} (t : Stmt) {r : StmtRead} {K K1 K2 : List ℕ} → read_stmt left s e n m ≡ got t m'
-      → end ≡ further n (size t) → set K1 (of_stmt n) (packed (row_of n m.halts t)) ≡ lay K n m.halts t
-      → Noted n (head_of t) m end m' r K1 K2 → Did r K K2
+  did_note : {end : StmtNo} {m' : Marks} (t : Stmt) {r : StmtNo × Marks} {K K1 K2 : List Row} → read_stmt left s e n m ≡ got t m'
+      → end ≡ further n (size t) → set K1 (of_stmt n) (row_of n m.halts t) ≡ lay K n m.halts t
+      → Noted n (head_of t) m end m' r K1 K2 → Did (Ok r) K K2
   unfolding stmt_answer Laid
   did_note {end} {m'} t {r} {K} {K1} {K2} q past laid d =
       let halts : m'.halts ≡ halts_on m.halts (halt_count t) = (moved left s e n m m' t q).halts in
-      let row : K2 ≡ set K1 (of_stmt n) (packed (row_of n m.halts t)) = rw (past, halts) at d.row in
-      let answer : r ≡ Next (further n (size t)) m' = rw past at d.answer in
-      rw q (record { answer = answer; rows = row ∙ laid })
+      let row : K2 ≡ set K1 (of_stmt n) (row_of n m.halts t) = rw (past, halts) at d.row in
+      let answer : r ≡ (further n (size t), m') = rw past at d.answer in
+      rw q (record { answer = ap Ok answer; rows = row ∙ laid })
 
   module _ (some : left ≡ 0 → ⊥) (few : of_stmt n < max_statements) where
     -- the head is refused
-    pub head_stop : {f : Fault} {K K' : List ℕ} → head_at s e m ≡ NoHead f → Did (Stopped f) K K'
+    pub head_stop : {f : Fault} {K K' : List Row} → head_at s e m ≡ Err f → Did (Err f) K K'
     unfolding parts
     head_stop h = did_stop (step left s e n m some few ∙ simp h)
 
     -- there are no parts
-    pub leaf_did : {x : Head} {l : Leaf} {m1 : Marks} {r : StmtRead} {K K' : List ℕ} → head_at s e m ≡ Read x m1 → x ≡ Zero l
-        → Noted n x m (further n 1) m1 r K K' → Did r K K'
+    pub leaf_did : {x : Head} {l : Leaf} {m1 : Marks} {r : StmtNo × Marks} {K K' : List Row} → head_at s e m ≡ Ok (x, m1) → x ≡ Zero l
+        → Noted n x m (further n 1) m1 r K K' → Did (Ok r) K K'
     unfolding parts size head_of lay
     leaf_did {l = l} h is w = did_note (leaf l) (step left s e n m some few ∙ simp (h, is)) refl refl (rw is at w)
 
-    module _ {x : Head} {u : Unary} {m1 : Marks} (h : head_at s e m ≡ Read x m1) (is : x ≡ One u) {r : StmtRead} {K K1 : List ℕ}
+    module _ {x : Head} {u : Unary} {m1 : Marks} (h : head_at s e m ≡ Ok (x, m1)) (is : x ≡ One u) {r : Result (StmtNo × Marks) Fault} {K K1 : List Row}
         (d : DidStmt (further n 1) m1.halts (read_stmt (left - 1) s (inside e u) (further n 1) m1) r K K1) where
       -- the part is refused
-      pub one_stop : {f : Fault} {K2 : List ℕ} → r ≡ Stopped f → Did (Stopped f) K K2
+      pub one_stop : {f : Fault} {K2 : List Row} → r ≡ Err f → Did (Err f) K K2
       unfolding parts and_then
       one_stop q = did_stop (step left s e n m some few ∙ simp (h, is, stopped_is (further n 1) _ d.answer q))
 
       -- the part was read: its halts begin where the statement's do
-      pub one_did : {k : StmtNo} {m2 : Marks} {r2 : StmtRead} {K2 : List ℕ} → r ≡ Next k m2 → Noted n (One u) m k m2 r2 K1 K2 → Did r2 K K2
+      pub one_did : {k : StmtNo} {m2 : Marks} {r2 : StmtNo × Marks} {K2 : List Row} → r ≡ Ok (k, m2) → Noted n (One u) m k m2 r2 K1 K2 → Did (Ok r2) K K2
       unfolding parts and_then size head_of halt_count lay
       one_did {k} {m2} {r2} {K2} q w = go (next_is (read_stmt (left - 1) s (inside e u) (further n 1) m1) d q)
         where
-          go : Gave (further n 1) m1.halts (read_stmt (left - 1) s (inside e u) (further n 1) m1) k m2 K K1 → Did r2 K K2
+          go : Gave (further n 1) m1.halts (read_stmt (left - 1) s (inside e u) (further n 1) m1) k m2 K K1 → Did (Ok r2) K K2
           go g =
               let p : Stmt = g.stmt in
               let whole : read_stmt left s e n m ≡ got (one u p) m2 = step left s e n m some few ∙ simp (h, is, g.outcome) in
@@ -140,21 +134,21 @@ module _ (left : ℕ) (s : List ℕ) (e : Around) (n : StmtNo) (m : Marks) where
               let start : m1.halts ≡ m.halts = same_halts (omega (arith, of_part, of_whole)) in
               did_note (one u p) whole (g.past ∙ further_on n 1 (size p)) (rw (g.rows, start)) w
 
-    module _ {x : Head} {b : Binary} {m1 : Marks} (h : head_at s e m ≡ Read x m1) (is : x ≡ Two b) {r : StmtRead} {K K1 : List ℕ}
+    module _ {x : Head} {b : Binary} {m1 : Marks} (h : head_at s e m ≡ Ok (x, m1)) (is : x ≡ Two b) {r : Result (StmtNo × Marks) Fault} {K K1 : List Row}
         (d : DidStmt (further n 1) m1.halts (read_stmt (left - 1) s e (further n 1) m1) r K K1) where
       -- the first part is refused
-      pub first_stop : {f : Fault} {K2 : List ℕ} → r ≡ Stopped f → Did (Stopped f) K K2
+      pub first_stop : {f : Fault} {K2 : List Row} → r ≡ Err f → Did (Err f) K K2
       unfolding parts and_then
       first_stop q = did_stop (step left s e n m some few ∙ simp (h, is, stopped_is (further n 1) _ d.answer q))
 
-      module _ {middle : StmtNo} {m2 : Marks} (q : r ≡ Next middle m2) {r2 : StmtRead} {K2 : List ℕ}
+      module _ {middle : StmtNo} {m2 : Marks} (q : r ≡ Ok (middle, m2)) {r2 : Result (StmtNo × Marks) Fault} {K2 : List Row}
           (d2 : DidStmt middle m2.halts (read_stmt (left - 1) s e middle m2) r2 K1 K2) where
         -- the second part is refused
-        pub second_stop : {f : Fault} {K3 : List ℕ} → r2 ≡ Stopped f → Did (Stopped f) K K3
+        pub second_stop : {f : Fault} {K3 : List Row} → r2 ≡ Err f → Did (Err f) K K3
         unfolding parts and_then
         second_stop {f} {K3} w = go (next_is (read_stmt (left - 1) s e (further n 1) m1) d q)
           where
-            go : Gave (further n 1) m1.halts (read_stmt (left - 1) s e (further n 1) m1) middle m2 K K1 → Did (Stopped f) K K3
+            go : Gave (further n 1) m1.halts (read_stmt (left - 1) s e (further n 1) m1) middle m2 K K1 → Did (Err f) K K3
             go g =
                 let p : Stmt = g.stmt in
                 let place : middle ≡ further n (1 + size p) = g.past ∙ further_on n 1 (size p) in
@@ -163,13 +157,13 @@ module _ (left : ℕ) (s : List ℕ) (e : Around) (n : StmtNo) (m : Marks) where
                 did_stop (step left s e n m some few ∙ simp (h, is, g.outcome, second))
 
         -- both were read: the second's halts follow the first's
-        pub two_did : {k : StmtNo} {m3 : Marks} {r3 : StmtRead} {K3 : List ℕ} → r2 ≡ Next k m3 → Noted n x m k m3 r3 K2 K3 → Did r3 K K3
+        pub two_did : {k : StmtNo} {m3 : Marks} {r3 : StmtNo × Marks} {K3 : List Row} → r2 ≡ Ok (k, m3) → Noted n x m k m3 r3 K2 K3 → Did (Ok r3) K K3
         unfolding parts and_then size head_of halt_count lay
         two_did {k} {m3} {r3} {K3} w v =
             go (next_is (read_stmt (left - 1) s e (further n 1) m1) d q) (next_is (read_stmt (left - 1) s e middle m2) d2 w)
           where
             go : Gave (further n 1) m1.halts (read_stmt (left - 1) s e (further n 1) m1) middle m2 K K1
-                → Gave middle m2.halts (read_stmt (left - 1) s e middle m2) k m3 K1 K2 → Did r3 K K3
+                → Gave middle m2.halts (read_stmt (left - 1) s e middle m2) k m3 K1 K2 → Did (Ok r3) K K3
             go g g2 =
                 let p : Stmt = g.stmt in
                 let p2 : Stmt = g2.stmt in
@@ -186,24 +180,24 @@ module _ (left : ℕ) (s : List ℕ) (e : Around) (n : StmtNo) (m : Marks) where
                 did_note (two b p p2) whole end (rw (g2.rows, g.rows, place, between, start)) (rw is at v)
 
 -- a sheet is refused, whatever was written before
-pub sheet_stop : {o : SheetOutcome} {f : Fault} {K K' : List ℕ} → o ≡ faulty f → DidSheet o (Refused f) K K'
+pub sheet_stop : {o : SheetOutcome} {f : Fault} {K K' : List Row} → o ≡ faulty f → DidSheet o (Err f) K K'
 unfolding sheet_answer SheetLaid
 sheet_stop e = rw e (record { answer = refl; rows = tt })
 
 -- the root of a sheet with i inputs and o outputs, which begins at `at`
-module _ (s : List ℕ) (i o at : ℕ) {r : StmtRead} {K K1 : List ℕ}
+module _ (s : List ℕ) (i o at : ℕ) {r : Result (StmtNo × Marks) Fault} {K K1 : List Row}
     (d : DidStmt (stmt_no 0) (halt_no 0) (read_stmt max_level s (root_around i o) (stmt_no 0) (root_marks at i o)) r K K1) where
   abbrev root : Outcome
   root = read_stmt max_level s (root_around i o) (stmt_no 0) (root_marks at i o)
 
   -- it is refused
-  pub root_stop : {f : Fault} {K2 : List ℕ} → r ≡ Stopped f → DidSheet (root_read s i o at) (Refused f) K K2
+  pub root_stop : {f : Fault} {K2 : List Row} → r ≡ Err f → DidSheet (root_read s i o at) (Err f) K K2
   unfolding root_read ended
   root_stop q = sheet_stop (simp (stopped_is (stmt_no 0) root d.answer q))
 
   -- bytes are left after it
-  pub root_extra : {k : StmtNo} {m : Marks} {K2 : List ℕ} → r ≡ Next k m → m.at < length s
-      → DidSheet (root_read s i o at) (Refused (fault Extra m.at)) K K2
+  pub root_extra : {k : StmtNo} {m : Marks} {K2 : List Row} → r ≡ Ok (k, m) → m.at < length s
+      → DidSheet (root_read s i o at) (Err (fault Extra m.at)) K K2
   unfolding root_read ended pick
   root_extra {m = m} q more = sheet_stop (simp ((next_is root d q).outcome, lt-ltb m.at (length s) more))
 
@@ -211,11 +205,11 @@ module _ (s : List ℕ) (i o at : ℕ) {r : StmtRead} {K K1 : List ℕ}
   abbrev counted : StmtNo → Marks → Counts
   counted k m = record { inputs = i; outputs = o; statements = of_stmt k; halts = of_halt m.halts; signals = of_signal m.signals }
 
-  pub root_read_lem : {k : StmtNo} {m : Marks} → r ≡ Next k m → length s ≤ m.at → DidSheet (root_read s i o at) (Accepted (counted k m)) K K1
+  pub root_read_lem : {k : StmtNo} {m : Marks} → r ≡ Ok (k, m) → length s ≤ m.at → DidSheet (root_read s i o at) (Ok (counted k m)) K K1
   unfolding root_read ended pick sheet_answer SheetLaid
   root_read_lem {k} {m} q all = go (next_is root d q)
     where
-      go : Gave (stmt_no 0) (halt_no 0) root k m K K1 → DidSheet (root_read s i o at) (Accepted (counted k m)) K K1
+      go : Gave (stmt_no 0) (halt_no 0) root k m K K1 → DidSheet (root_read s i o at) (Ok (counted k m)) K K1
       go g =
           let t : Stmt = g.stmt in
           let passed : Moved (root_marks at i o) m t = moved max_level s (root_around i o) (stmt_no 0) (root_marks at i o) m t g.outcome in
@@ -226,12 +220,12 @@ module _ (s : List ℕ) (i o at : ℕ) {r : StmtRead} {K K1 : List ℕ}
 
 -- the header's two numbers: too many signals ..
 pub header_stop : (s : List ℕ) (i o second at : ℕ) → max_signals < 1 + i + o
-    → after_outputs s i second (Value o (cursor at)) ≡ faulty (fault Count second)
+    → after_outputs s i second (Ok (o, cursor at)) ≡ faulty (fault Count second)
 unfolding after_outputs pick
 header_stop s i o second at many = simp (lt-ltb max_signals (1 + i + o) many)
 
 -- .. or few enough
 pub header_fits : (s : List ℕ) (i o second at : ℕ) → 1 + i + o ≤ max_signals
-    → after_outputs s i second (Value o (cursor at)) ≡ root_read s i o at
+    → after_outputs s i second (Ok (o, cursor at)) ≡ root_read s i o at
 unfolding after_outputs pick
 header_fits s i o second at few = simp (le-ltb max_signals (1 + i + o) few)

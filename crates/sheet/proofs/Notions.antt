@@ -20,11 +20,10 @@ use Rattle.sheet.specs.declared.Head.{Head}
 use Rattle.sheet.specs.declared.Head.TheVariants.{Zero, One, Two}
 use Rattle.sheet.specs.Stmt.{Stmt, leaf, one, two, kind_of, halt_count, declares, local_count}
 use Rattle.sheet.specs.Read.{Around, inside, only, root_around}
-use Rattle.sheet.specs.Rows.{kind_span}
 use Rattle.sheet.specs.Form.{halts_on, signals_on, LeafPlaced, UnaryPlaced, BinaryPlaced, Placed, Proper}
 
--- a kind is small: it has room in a row, and is a number of a sheet
-pub kind_small : (h : Head) → kind_of h < kind_span
+-- a kind is small: it is a number of a sheet
+pub kind_small : (h : Head) → kind_of h < 16
 kind_small (Zero Nothing) = omega arith
 kind_small (Zero (Halt h)) = omega arith
 kind_small (Zero (Emit s)) = omega arith

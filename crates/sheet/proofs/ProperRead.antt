@@ -7,7 +7,6 @@ use native.Mathlib.Nat.{add-zero}
 use Rattle.number.specs.declared.SignalNo.{SignalNo}
 use Rattle.number.specs.declared.StmtNo.{StmtNo}
 use Rattle.number.specs.declared.Cursor.{Cursor}
-use Rattle.number.specs.declared.NumberRead.TheVariants.{Value}
 use Rattle.number.specs.Counts.{signal_no, of_signal, halt_no, of_halt, stmt_no, of_stmt}
 use Rattle.number.specs.Number.{number_at, number_bytes, Bytes}
 use Rattle.limits.specs.Limits.{max_statements, max_level}
@@ -29,6 +28,7 @@ use Rattle.sheet.proofs.Stands.{Stands, stands_none, stands_both, read_stands}
 use Rattle.sheet.proofs.Moved.{MovedBy, head_moved, to_moved, by_moved, one_moved, two_moved}
 use Rattle.sheet.proofs.Here.{operand_bytes, head_bytes, HeadPlaced, Within, Here, bytes_leaf, bytes_one, bytes_two}
 use Rattle.sheet.proofs.Whole.{SheetIs, is_sheet}
+use Rattle.std.specs.Prelude.{Ok}
 
 -- what reading a head says of it, besides how far the marks move (`head_moved`)
 record HeadSays (s : List ℕ) (e : Around) (m : Marks) (h : Head) (m' : Marks) : Type 0 where
@@ -44,13 +44,13 @@ pub record Says (s : List ℕ) (left : ℕ) (e : Around) (n : StmtNo) (m : Marks
 
 module _ (s : List ℕ) (e : Around) (m : Marks) (c : Cursor) where
   -- the bytes of a kind alone
-  kind_alone : (k : ℕ) → number_at s m.at ≡ Value k c → Bytes s → Stands s m.at (number_bytes k ++ []) c.at
+  kind_alone : (k : ℕ) → number_at s m.at ≡ Ok (k, c) → Bytes s → Stands s m.at (number_bytes k ++ []) c.at
   kind_alone k q are =
       let kind : Stands s m.at (number_bytes k) c.at = read_stands s m.at k c are q in
       stands_both s m.at (number_bytes k) c.at [] c.at kind (stands_none s c.at kind.inside)
 
   -- and of a kind with a number behind it
-  kind_number : (k v : ℕ) (after : Cursor) → number_at s m.at ≡ Value k c → number_at s c.at ≡ Value v after → Bytes s
+  kind_number : (k v : ℕ) (after : Cursor) → number_at s m.at ≡ Ok (k, c) → number_at s c.at ≡ Ok (v, after) → Bytes s
       → Stands s m.at (number_bytes k ++ number_bytes v) after.at
   kind_number k v after q w are =
       let kind = read_stands s m.at k c are q in
@@ -61,12 +61,12 @@ module _ (s : List ℕ) (e : Around) (m : Marks) (c : Cursor) where
   kept at w = omega arith
 
   -- a head without an operand that takes no number
-  plain : (h : Head) → operand_bytes h ≡ [] → HeadPlaced e m h → number_at s m.at ≡ Value (kind_of h) c → HeadSays s e m h (past m c.at)
+  plain : (h : Head) → operand_bytes h ≡ [] → HeadPlaced e m h → number_at s m.at ≡ Ok (kind_of h, c) → HeadSays s e m h (past m c.at)
   plain h o placed q = record { placed = placed; within = kept c.at; bytes = λ are. rw o (kind_alone (kind_of h) q are) }
 
   -- a head that names a signal
   naming : (h : Head) (x : SignalNo) (m' : Marks) → operand_bytes h ≡ number_bytes (of_signal x) → HeadPlaced e m h
-      → number_at s m.at ≡ Value (kind_of h) c → Names s e (past m c.at) x m' → HeadSays s e m h m'
+      → number_at s m.at ≡ Ok (kind_of h, c) → Names s e (past m c.at) x m' → HeadSays s e m h m'
   naming h x m' o placed q r =
       rw r.marks
       (record {

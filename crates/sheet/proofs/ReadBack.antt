@@ -22,8 +22,6 @@ use Rattle.sheet.specs.declared.Binary.TheVariants.{Sequence, Present, Parallel}
 use Rattle.sheet.specs.declared.Head.{Head}
 use Rattle.sheet.specs.declared.Head.TheVariants.{Zero, One, Two}
 use Rattle.sheet.specs.declared.Marks.{Marks}
-use Rattle.sheet.specs.declared.SignalRead.TheVariants.{Named}
-use Rattle.sheet.specs.declared.HeadRead.TheVariants.{Read}
 use Rattle.sheet.specs.Stmt.{Stmt, leaf, one, two, kind_of, size, levels, halt_count, declares, local_count}
 use Rattle.sheet.specs.Read.{Around, past, signal_of, signal_at, naming, emitting, exiting, halt_at, local_at, trap_at}
 use Rattle.sheet.specs.Read.{of_kind, head_of_kind, head_at}
@@ -34,6 +32,7 @@ use Rattle.sheet.proofs.Stands.{Stands, stands_first, stands_second, stands_all,
 use Rattle.sheet.proofs.Moved.{MovedBy, to_moved, by_moved}
 use Rattle.sheet.proofs.Here.{operand_bytes, head_bytes, Within, HeadHere, Here, bytes_leaf, bytes_one, bytes_two}
 use Rattle.sheet.proofs.Whole.{SheetIs, sheet_is}
+use Rattle.std.specs.Prelude.{Ok}
 
 -- marks are the same by their numbers
 abbrev marks : ℕ → ℕ → ℕ → Marks
@@ -71,17 +70,17 @@ module _ (s : List ℕ) (e : Around) (m : Marks) (h : Head) (m' : Marks) (stands
   past_kind o = omega (arith, operand.end, ap length o)
 
   -- a head without operand that counts nothing
-  plain_reads : operand_bytes h ≡ [] → MovedBy m m' 0 0 → of_kind s e m.at (kinded m h) (kind_of h) ≡ Read h (kinded m h)
-      → head_at s e m ≡ Read h m'
-  plain_reads o c q = kind_reads ∙ q ∙ ap (Read h) (uncounted m m' (kinded m h).at (past_kind o) c)
+  plain_reads : operand_bytes h ≡ [] → MovedBy m m' 0 0 → of_kind s e m.at (kinded m h) (kind_of h) ≡ Ok (h, kinded m h)
+      → head_at s e m ≡ Ok (h, m')
+  plain_reads o c q = kind_reads ∙ q ∙ ap (λ (k : Marks). Ok (h, k)) (uncounted m m' (kinded m h).at (past_kind o) c)
 
   -- an operand that names a signal of the scope
   signal_reads : (x : SignalNo) → operand_bytes h ≡ number_bytes (of_signal x) → of_signal x < max_signals → e.scope x ≡ true
-      → MovedBy m m' 0 0 → signal_at s e (kinded m h) ≡ Named x m'
+      → MovedBy m m' 0 0 → signal_at s e (kinded m h) ≡ Ok (x, m')
   unfolding signal_of pick
   signal_reads x o small scope c =
       let number = stands_read s (kinded m h).at (of_signal x) m'.at (rw o at operand) (omega arith) in
-      rw (number, scope) (ap (Named x) (uncounted m m' m'.at refl c))
+      rw (number, scope) (ap (λ (k : Marks). Ok (x, k)) (uncounted m m' m'.at refl c))
 
 module _ (s : List ℕ) (e : Around) (m : Marks) (below : Below e m.signals) (few : e.traps ≤ max_traps) where
   -- a signal that may be named is not past the last
@@ -89,7 +88,7 @@ module _ (s : List ℕ) (e : Around) (m : Marks) (below : Below e m.signals) (fe
   named_small h m' r w x scope = omega (arith, below x scope)
 
   -- a head that stands in its place is read
-  head_reads : (h : Head) (m' : Marks) → HeadHere e m h m' → Within m' → Stands s m.at (head_bytes h) m'.at → head_at s e m ≡ Read h m'
+  head_reads : (h : Head) (m' : Marks) → HeadHere e m h m' → Within m' → Stands s m.at (head_bytes h) m'.at → head_at s e m ≡ Ok (h, m')
   unfolding of_kind pick LeafPlaced UnaryPlaced BinaryPlaced halt_at emitting exiting naming local_at trap_at
   head_reads (Zero Nothing) m' r w st = plain_reads s e m (Zero Nothing) m' st refl r.moved refl
   head_reads (One Loop) m' r w st = plain_reads s e m (One Loop) m' st refl r.moved refl
@@ -101,13 +100,13 @@ module _ (s : List ℕ) (e : Around) (m : Marks) (below : Below e m.signals) (fe
       let next : record { at = (kinded m h).at; halts = halts_on m.halts 1; signals = m.signals } ≡ m' =
       marks_same _ m' (past_kind s e m h m' st refl) (sym r.moved.halts) (omega arith) in
       let free : leb max_halts (of_halt m.halts) ≡ false = lt-leb max_halts (of_halt m.halts) (omega arith) in
-      kind_reads s e m h m' st ∙ rw free (rw r.placed (ap (Read (Zero (Halt m.halts))) next))
+      kind_reads s e m h m' st ∙ rw free (rw r.placed (ap (λ (k : Marks). Ok (Zero (Halt m.halts), k)) next))
   head_reads (One (Signal x)) m' r w st =
       let h : Head = One (Signal x) in
       let next : record { at = (kinded m h).at; halts = m.halts; signals = signals_on m.signals 1 } ≡ m' =
       marks_same _ m' (past_kind s e m h m' st refl) (omega arith) (sym r.moved.signals) in
       let free : leb max_signals (of_signal m.signals) ≡ false = lt-leb max_signals (of_signal m.signals) (omega arith) in
-      kind_reads s e m h m' st ∙ rw free (rw r.placed (ap (Read (One (Signal m.signals))) next))
+      kind_reads s e m h m' st ∙ rw free (rw r.placed (ap (λ (k : Marks). Ok (One (Signal m.signals), k)) next))
   head_reads (Zero (Emit x)) m' r w st =
       let h : Head = Zero (Emit x) in
       let scope : e.scope x ≡ true = r.placed.0 in
@@ -125,20 +124,20 @@ module _ (s : List ℕ) (e : Around) (m : Marks) (below : Below e m.signals) (fe
       let h : Head = Zero (Exit k) in
       kind_reads s e m h m' st
       ∙ rw (stands_read s (kinded m h).at k m'.at (operand s e m h m' st) (omega arith))
-      (rw (le-ltb k 2 r.placed.0, le-ltb (1 + e.traps) k r.placed.1) (ap (Read h) (uncounted m m' m'.at refl r.moved)))
+      (rw (le-ltb k 2 r.placed.0, le-ltb (1 + e.traps) k r.placed.1) (ap (λ (k : Marks). Ok (h, k)) (uncounted m m' m'.at refl r.moved)))
 
 -- How a statement is read, given how its head and its parts are.
 module _ (s : List ℕ) (left : ℕ) (e : Around) (n : StmtNo) (m m1 : Marks) (small : of_stmt n < max_statements) where
-  leaf_got : (l : Leaf) → head_at s e m ≡ Read (Zero l) m1 → read_stmt (suc left) s e n m ≡ got (leaf l) m1
+  leaf_got : (l : Leaf) → head_at s e m ≡ Ok (Zero l, m1) → read_stmt (suc left) s e n m ≡ got (leaf l) m1
   unfolding read_stmt parts pick
   leaf_got l h = rw (lt-leb max_statements (of_stmt n) small, h)
 
-  one_got : (u : Unary) (p : Stmt) (m2 : Marks) → head_at s e m ≡ Read (One u) m1 → read_stmt left s (inside e u) (further n 1) m1 ≡ got p m2
+  one_got : (u : Unary) (p : Stmt) (m2 : Marks) → head_at s e m ≡ Ok (One u, m1) → read_stmt left s (inside e u) (further n 1) m1 ≡ got p m2
       → read_stmt (suc left) s e n m ≡ got (one u p) m2
   unfolding read_stmt parts and_then pick
   one_got u p m2 h q = rw (lt-leb max_statements (of_stmt n) small, h) (rw q)
 
-  two_got : (b : Binary) (p q : Stmt) (m2 m3 : Marks) → head_at s e m ≡ Read (Two b) m1 → read_stmt left s e (further n 1) m1 ≡ got p m2
+  two_got : (b : Binary) (p q : Stmt) (m2 m3 : Marks) → head_at s e m ≡ Ok (Two b, m1) → read_stmt left s e (further n 1) m1 ≡ got p m2
       → read_stmt left s e (further n (1 + size p)) m2 ≡ got q m3 → read_stmt (suc left) s e n m ≡ got (two b p q) m3
   unfolding read_stmt parts and_then pick
   two_got b p q m2 m3 h k k2 = rw (lt-leb max_statements (of_stmt n) small, h) (rw k (rw k2))

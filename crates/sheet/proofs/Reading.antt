@@ -13,26 +13,30 @@ use Rattle.bits.specs.Bits.{has, signal_bit, width, whole}
 use Rattle.bits.proofs.Whole.{Proper, has_wide}
 use Rattle.limits.specs.Limits.{max_statements}
 use Rattle.number.specs.declared.Cursor.{Cursor}
+use Rattle.number.specs.declared.Fault.{Fault}
 use Rattle.number.specs.declared.SignalNo.{SignalNo}
 use Rattle.number.specs.declared.StmtNo.{StmtNo}
 use Rattle.number.specs.declared.Refusal.TheVariants.{Kind, Count}
 use Rattle.number.specs.Counts.{of_stmt}
 use Rattle.number.specs.Refusals.{fault}
 use Rattle.number.specs.Number.{pick}
-use Rattle.sheet.specs.declared.Leaf.TheVariants.{Nothing}
 use Rattle.sheet.specs.declared.Unary.{Unary}
 use Rattle.sheet.specs.declared.Unary.TheVariants.{Signal}
 use Rattle.sheet.specs.declared.Head.{Head}
 use Rattle.sheet.specs.declared.Head.TheVariants.{Zero, One, Two}
 use Rattle.sheet.specs.declared.Marks.{Marks}
 use Rattle.sheet.specs.declared.Env.{Env}
-use Rattle.sheet.specs.declared.HeadRead.TheVariants.{Read, Refused as NoHead}
-use Rattle.sheet.specs.Stmt.{Stmt, size}
-use Rattle.sheet.specs.Read.{Around, of_kind, head_at, inside, got, refused, parts, read_stmt, root_around}
-use Rattle.sheet.specs.Rows.{head_from}
+use Rattle.sheet.specs.Read.{Around, of_kind, head_at, inside, refused, parts, read_stmt, root_around}
 use Rattle.sheet.specs.Contract.{around, LocalFits}
-use Rattle.sheet.proofs.Induction.{HeadIs, headed, read_induction}
+use Rattle.sheet.proofs.Induction.{HeadIs, headed}
 use Rattle.sheet.proofs.Induction.{nothing, halt, emit, sequence, loop, present, watching, parallel, trap, exit, local}
+use Rattle.std.specs.Prelude.{Result, Ok, Err}
+use Rattle.std.specs.Result.{IsErrAnd}
+use Rattle.std.proofs.lemmas.Result.{err_from_is_err_and}
+
+-- what `?` hands on is the fault that was met
+pub handed_on : {T : Type 0} {r : Result T Fault} {f : Fault} → IsErrAnd r (λ d. d ≡ f) → r ≡ Err f
+handed_on {r = r} h = let p = err_from_is_err_and r h in rw (p.1, p.2)
 
 -- two tests that lead to the same are one
 pub pick_either : {A : Type 0} (a b : Bool) (x y : A) → pick a x (pick b x y) ≡ pick (a || b) x y
@@ -40,24 +44,24 @@ unfolding pick
 pick_either true b x y = refl
 pick_either false b x y = refl
 
--- what the last arm of a `match` knows: k is none of the n numbers from `low` on
-abbrev pub Passed : ℕ → ℕ → ℕ → Type 0
-Passed low k zero = Unit
-Passed low k (suc n) = Passed low k n × (k ≡ low + n → ⊥)
+-- what the last arm of a `match` knows: k is none of the first n numbers
+abbrev pub Passed : ℕ → ℕ → Type 0
+Passed k zero = Unit
+Passed k (suc n) = Passed k n × (k ≡ n → ⊥)
 
-is_not : (low n k : ℕ) → Passed low k n → (j : ℕ) → low ≤ j → j < low + n → eqb k j ≡ false
-is_not low zero k h j above below = absurd (omega arith)
-is_not low (suc n) k h j above below = go (ℕ_discrete j (low + n)) (is_not low n k h.0 j above)
+is_not : (n k : ℕ) → Passed k n → (j : ℕ) → j < n → eqb k j ≡ false
+is_not zero k h j below = absurd (omega arith)
+is_not (suc n) k h j below = go (ℕ_discrete j n) (is_not n k h.0 j)
   where
-    go : Dec (j ≡ low + n) → (j < low + n → eqb k j ≡ false) → eqb k j ≡ false
+    go : Dec (j ≡ n) → (j < n → eqb k j ≡ false) → eqb k j ≡ false
     go (yes e) before = ne_eqb k j (λ q. h.1 (q ∙ e))
     go (no e) before = before (omega arith)
 
 -- any kind but 0 to 10 is KIND
-pub over_ten : (s : List ℕ) (e : Around) (place : ℕ) (m : Marks) (k : ℕ) → Passed 0 k 11 → of_kind s e place m k ≡ NoHead (fault Kind place)
+pub over_ten : (s : List ℕ) (e : Around) (place : ℕ) (m : Marks) (k : ℕ) → Passed k 11 → of_kind s e place m k ≡ Err (fault Kind place)
 unfolding of_kind pick
 over_ten s e place m k h =
-    let other : (j : ℕ) → j < 11 → eqb k j ≡ false = λ j small. is_not 0 11 k h j (omega arith) small in
+    let other : (j : ℕ) → j < 11 → eqb k j ≡ false = is_not 11 k h in
     simp (
       other 0 (omega arith),
       other 1 (omega arith),
@@ -70,24 +74,6 @@ over_ten s e place m k h =
       other 8 (omega arith),
       other 9 (omega arith),
       other 10 (omega arith),
-    )
-
--- any kind but 1 to 10 is nothing's
-pub no_kind : (k x : ℕ) → Passed 1 k 10 → head_from k x ≡ Zero Nothing
-unfolding head_from pick
-no_kind k x h =
-    let other : (j : ℕ) → j < 10 → eqb k (1 + j) ≡ false = λ j small. is_not 1 10 k h (1 + j) (omega arith) (omega arith) in
-    simp (
-      other 0 (omega arith),
-      other 1 (omega arith),
-      other 2 (omega arith),
-      other 3 (omega arith),
-      other 4 (omega arith),
-      other 5 (omega arith),
-      other 6 (omega arith),
-      other 7 (omega arith),
-      other 8 (omega arith),
-      other 9 (omega arith),
     )
 
 -- what the code's set means after `add`: one signal more may be named
@@ -133,7 +119,7 @@ head_fits (trap q few) = tt
 head_fits (exit q w low high) = tt
 head_fits (local q few) = few
 
-pub local_fits : (s : List ℕ) (e : Around) (m : Marks) {u : Unary} {m1 : Marks} → head_at s e m ≡ Read (One u) m1 → LocalFits u
+pub local_fits : (s : List ℕ) (e : Around) (m : Marks) {u : Unary} {m1 : Marks} → head_at s e m ≡ Ok (One u, m1) → LocalFits u
 local_fits s e m {u} {m1} h = head_fits (headed s e m (One u) m1 h).is
 
 -- one level: a level is left, and the number is one that a statement may have
@@ -157,14 +143,3 @@ pub too_many : (left : ℕ) (s : List ℕ) (e : Around) (n : StmtNo) (m : Marks)
 unfolding read_stmt pick
 too_many zero s e n m many = refl
 too_many (suc left) s e n m many = rw (le-leb max_statements (of_stmt n) many, read_stmt)
-
--- no number of a statement that was read is past the last, its last part's neither
-pub few_statements : (left : ℕ) (s : List ℕ) (e : Around) (n : StmtNo) (m : Marks) (t : Stmt) (m' : Marks)
-    → read_stmt left s e n m ≡ got t m' → of_stmt n + size t ≤ max_statements
-unfolding size
-few_statements left s e n m t m' q =
-    read_induction s (λ left e n m t m'. of_stmt n + size t ≤ max_statements)
-    (λ left e n m m1 l small h. omega arith)
-    (λ left e n m m1 m2 u p small h part. omega arith)
-    (λ left e n m m1 m2 m3 b p p2 small h first second. omega arith)
-    left e n m t m' q

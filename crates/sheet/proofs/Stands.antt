@@ -6,9 +6,9 @@ use native.Mathlib.Omega.{arith}
 use lib.ListN.{length, take, drop, length-append, take-append-drop, drop_of_length-le}
 use lib.Seq.{length-take-le, drop-drop, drop-append_seam, drop-length}
 use Rattle.number.specs.declared.Cursor.{Cursor}
-use Rattle.number.specs.declared.NumberRead.TheVariants.{Value}
 use Rattle.number.specs.Number.{number_at, number_bytes, number_length, cursor, Bytes}
 use Rattle.number.proofs.Laws.{read_bytes, only_spelling, Spelled}
+use Rattle.std.specs.Prelude.{Ok}
 
 -- the bytes bs stand in s, from the offset a up to the offset b
 pub record Stands (s : List ℕ) (a : ℕ) (bs : List ℕ) (b : ℕ) : Type 0 where
@@ -56,14 +56,14 @@ pub stands_whole : (s bs : List ℕ) (b : ℕ) → Stands s 0 bs b → length s 
 stands_whole s bs b h l = h.bytes ∙ ap (λ (r : List ℕ). bs ++ r) (drop_of_length-le s l) ∙ append-nil bs
 
 -- a number is read where its bytes stand
-pub stands_read : (s : List ℕ) (a v b : ℕ) → Stands s a (number_bytes v) b → v < 16384 → number_at s a ≡ Value v (cursor b)
+pub stands_read : (s : List ℕ) (a v b : ℕ) → Stands s a (number_bytes v) b → v < 16384 → number_at s a ≡ Ok (v, cursor b)
 stands_read s a v b h small =
     let before : length (take a s) ≡ a = length-take-le a s (omega arith) in
     let whole : take a s ++ (number_bytes v ++ drop b s) ≡ s = ap (λ (l : List ℕ). take a s ++ l) (sym h.bytes) ∙ take-append-drop a s in
-    rw (whole, before) at (read_bytes (take a s) (drop b s) v small) ∙ ap (λ (x : ℕ). Value v (cursor x)) (sym h.end)
+    rw (whole, before) at (read_bytes (take a s) (drop b s) v small) ∙ ap (λ (x : ℕ). Ok (v, cursor x)) (sym h.end)
 
 -- and, in a list of bytes, nowhere else
-pub read_stands : (s : List ℕ) (a v : ℕ) (c : Cursor) → Bytes s → number_at s a ≡ Value v c → Stands s a (number_bytes v) c.at
+pub read_stands : (s : List ℕ) (a v : ℕ) (c : Cursor) → Bytes s → number_at s a ≡ Ok (v, c) → Stands s a (number_bytes v) c.at
 read_stands s a v c are e =
     let w : Spelled s a v c = only_spelling s a are e in
     let end : c.at ≡ a + number_length v = ap (λ (x : Cursor). x.at) w.past in

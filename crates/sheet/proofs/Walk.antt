@@ -2,31 +2,24 @@
 -- row says what the statement is and where its parts stand.
 use mathlib.Core.Path.{◌≡◌, refl, sym, ap, ◌∙◌}
 use mathlib.Core.List.{List}
-use Prim.Native.Nat.{ℕ, ◌+◌, ◌*◌, ◌/◌, ◌%◌, ◌<◌, ◌≤◌}
+use Prim.Native.Nat.{ℕ, ◌+◌, ◌<◌, ◌≤◌}
 use native.Mathlib.Omega.{arith}
 use native.Mathlib.Nat.{add_assoc}
 use lib.ListN.{length, get_or, set, length-set}
 use lib.Seq.{get_or-set_same, get_or-set_other}
 use Rattle.number.specs.declared.StmtNo.{StmtNo}
 use Rattle.number.specs.declared.HaltNo.{HaltNo}
-use Rattle.number.specs.Counts.{halt_no, of_halt, stmt_no, of_stmt}
-use Rattle.number.specs.Number.{pick}
-use Rattle.limits.specs.Limits.{max_statements, max_halts, max_signals, max_traps}
+use Rattle.number.specs.Counts.{halt_no, stmt_no, of_stmt}
+use Rattle.limits.specs.Limits.{max_statements}
 use Rattle.sheet.specs.declared.Leaf.{Leaf}
-use Rattle.sheet.specs.declared.Leaf.TheVariants.{Nothing, Halt, Emit, Exit}
 use Rattle.sheet.specs.declared.Unary.{Unary}
-use Rattle.sheet.specs.declared.Unary.TheVariants.{Loop, Watching, Trap, Signal}
 use Rattle.sheet.specs.declared.Binary.{Binary}
-use Rattle.sheet.specs.declared.Binary.TheVariants.{Sequence, Present, Parallel}
-use Rattle.sheet.specs.declared.Head.{Head}
 use Rattle.sheet.specs.declared.Head.TheVariants.{Zero, One, Two}
 use Rattle.sheet.specs.declared.Row.{Row}
-use Rattle.sheet.specs.Stmt.{Stmt, leaf, one, two, head_of, kind_of, size, halt_count, local_count}
+use Rattle.sheet.specs.Stmt.{Stmt, leaf, one, two, head_of, size, halt_count}
 use Rattle.sheet.specs.Read.{further}
-use Rattle.sheet.specs.Rows.{row_of, leaf_operand, unary_operand, binary_operand, operand_of, head_from, row_at, lay, Holds, Tree}
-use Rattle.sheet.specs.Rows.{kind_span, stmt_span, field_span, operand_at, first_at, past_at, packed, unpacked}
+use Rattle.sheet.specs.Rows.{empty_row, row_of, row_at, lay, Holds, Tree}
 use Rattle.sheet.specs.Form.{halts_on, Proper}
-use Rattle.sheet.proofs.Notions.{kind_small, BinaryScoped, Numbered, Scoped, Exits, proper_numbered, proper_scoped, proper_exits}
 
 -- a statement has a row of its own
 pub size_pos : (t : Stmt) → 1 ≤ size t
@@ -35,216 +28,97 @@ size_pos (leaf l) = omega arith
 size_pos (one u p) = omega arith
 size_pos (two b p q) = omega arith
 
--- A word gives back the row that was packed in it: first the head, then the fields.
-head_back : (h : Head) → head_from (kind_of h) (operand_of h) ≡ h
-unfolding head_from pick
-head_back (Zero Nothing) = refl
-head_back (Zero (Halt h)) = refl
-head_back (Zero (Emit s)) = refl
-head_back (Zero (Exit k)) = refl
-head_back (One Loop) = refl
-head_back (One (Watching s)) = refl
-head_back (One Trap) = refl
-head_back (One (Signal s)) = refl
-head_back (Two Sequence) = refl
-head_back (Two (Present s)) = refl
-head_back (Two Parallel) = refl
-
-abbrev word : ℕ → ℕ → ℕ → ℕ → ℕ → ℕ
-word k e x f p = k + kind_span * e + operand_at * x + first_at * f + past_at * p
-
-fields : (k e x f p : ℕ) → k < kind_span → e < stmt_span → x < field_span → f < field_span → p < field_span
-    → (word k e x f p % kind_span ≡ k) × (word k e x f p / kind_span % stmt_span ≡ e) × (word k e x f p / operand_at % field_span ≡ x)
-    × (word k e x f p / first_at % field_span ≡ f) × (word k e x f p / past_at % field_span ≡ p)
-fields k e x f p hk he hx hf hp = omega arith
-
-pub unpacked_packed : (r : Row) → of_stmt r.end < stmt_span → operand_of r.head < field_span → of_halt r.first < field_span
-    → of_halt r.past < field_span → unpacked (packed r) ≡ r
-unfolding unpacked packed
-unpacked_packed r he hx hf hp =
-    let small = kind_small r.head in
-    let back = fields (kind_of r.head) (of_stmt r.end) (operand_of r.head) (of_halt r.first) (of_halt r.past) small he hx hf hp in
-    rw (back.0, back.1, back.2, back.3, back.4, head_back r.head)
-
 -- laying rows changes none of the rows before them, nor how many there are
-pub length_lay : (rows : List ℕ) (n : StmtNo) (a : HaltNo) (t : Stmt) → length (lay rows n a t) ≡ length rows
+pub length_lay : (rows : List Row) (n : StmtNo) (a : HaltNo) (t : Stmt) → length (lay rows n a t) ≡ length rows
 unfolding lay
 length_lay rows n a (leaf l) = length-set rows (of_stmt n) _
 length_lay rows n a (one u p) = length-set (lay rows (further n 1) a p) (of_stmt n) _ ∙ length_lay rows (further n 1) a p
 length_lay rows n a (two b p q) =
-    let rows₁ : List ℕ = lay rows (further n 1) a p in
-    let rows₂ : List ℕ = lay rows₁ (further n (1 + size p)) (halts_on a (halt_count p)) q in
+    let rows₁ : List Row = lay rows (further n 1) a p in
+    let rows₂ : List Row = lay rows₁ (further n (1 + size p)) (halts_on a (halt_count p)) q in
     length-set rows₂ (of_stmt n) _ ∙ length_lay rows₁ (further n (1 + size p)) (halts_on a (halt_count p)) q
     ∙ length_lay rows (further n 1) a p
 
-pub lay_below : (rows : List ℕ) (n : StmtNo) (a : HaltNo) (t : Stmt) (j : ℕ) → j < of_stmt n → get_or (lay rows n a t) j 0 ≡ get_or rows j 0
+pub lay_below : (rows : List Row) (n : StmtNo) (a : HaltNo) (t : Stmt) (j : ℕ) → j < of_stmt n → get_or (lay rows n a t) j empty_row ≡ get_or rows j empty_row
 unfolding lay
-lay_below rows n a (leaf l) j h = get_or-set_other rows (of_stmt n) j _ 0 (omega arith)
+lay_below rows n a (leaf l) j h = get_or-set_other rows (of_stmt n) j _ empty_row (omega arith)
 lay_below rows n a (one u p) j h =
-    get_or-set_other (lay rows (further n 1) a p) (of_stmt n) j _ 0 (omega arith) ∙ lay_below rows (further n 1) a p j (omega arith)
+    get_or-set_other (lay rows (further n 1) a p) (of_stmt n) j _ empty_row (omega arith) ∙ lay_below rows (further n 1) a p j (omega arith)
 lay_below rows n a (two b p q) j h =
-    let rows₁ : List ℕ = lay rows (further n 1) a p in
-    let rows₂ : List ℕ = lay rows₁ (further n (1 + size p)) (halts_on a (halt_count p)) q in
-    get_or-set_other rows₂ (of_stmt n) j _ 0 (omega arith)
+    let rows₁ : List Row = lay rows (further n 1) a p in
+    let rows₂ : List Row = lay rows₁ (further n (1 + size p)) (halts_on a (halt_count p)) q in
+    get_or-set_other rows₂ (of_stmt n) j _ empty_row (omega arith)
     ∙ lay_below rows₁ (further n (1 + size p)) (halts_on a (halt_count p)) q j (omega arith)
     ∙ lay_below rows (further n 1) a p j (omega arith)
 
 -- to hold a statement is a claim on its own rows alone
-abbrev Agree : List ℕ → List ℕ → StmtNo → ℕ → Type 0
-Agree rows rows' n k = (j : ℕ) → of_stmt n ≤ j → j < of_stmt n + k → get_or rows' j 0 ≡ get_or rows j 0
+abbrev Agree : List Row → List Row → StmtNo → ℕ → Type 0
+Agree rows rows' n k = (j : ℕ) → of_stmt n ≤ j → j < of_stmt n + k → get_or rows' j empty_row ≡ get_or rows j empty_row
 
-pub holds_agree : (rows rows' : List ℕ) (n : StmtNo) (a : HaltNo) (t : Stmt) → length rows' ≡ length rows → Agree rows rows' n (size t)
+pub holds_agree : (rows rows' : List Row) (n : StmtNo) (a : HaltNo) (t : Stmt) → length rows' ≡ length rows → Agree rows rows' n (size t)
     → Holds rows n a t → Holds rows' n a t
 unfolding Holds size
 holds_agree rows rows' n a (leaf l) len same h =
-    (omega (arith, h.0), ap unpacked (same (of_stmt n) (omega arith) (omega arith)) ∙ h.1)
+    (omega (arith, h.0), same (of_stmt n) (omega arith) (omega arith) ∙ h.1)
 holds_agree rows rows' n a (one u p) len same h = (
   omega (arith, h.0),
-  ap unpacked (same (of_stmt n) (omega arith) (omega arith)) ∙ h.1,
+  same (of_stmt n) (omega arith) (omega arith) ∙ h.1,
   holds_agree rows rows' (further n 1) a p len (λ j x y. same j (omega arith) (omega arith)) h.2,
 )
 holds_agree rows rows' n a (two b p q) len same h = (
   omega (arith, h.0),
-  ap unpacked (same (of_stmt n) (omega arith) (omega arith)) ∙ h.1,
+  same (of_stmt n) (omega arith) (omega arith) ∙ h.1,
   holds_agree rows rows' (further n 1) a p len (λ j x y. same j (omega arith) (omega arith)) h.2,
   holds_agree rows rows' (further n (1 + size p)) (halts_on a (halt_count p)) q len (λ j x y. same j (omega arith) (omega arith)) h.3,
 )
 
--- every operand fits in a row
-unfoldable pub Small : Stmt → Type 0
-Small (leaf l) = leaf_operand l < field_span
-Small (one u p) = (unary_operand u < field_span) × Small p
-Small (two b p q) = (binary_operand b < field_span) × Small p × Small q
-
-small_head : (t : Stmt) → Small t → operand_of (head_of t) < field_span
-unfolding Small head_of
-small_head (leaf l) h = h
-small_head (one u p) h = h.0
-small_head (two b p q) h = h.0
-
--- the rows of t from the number n and the halt a on have room in a table, and in the fields of a row
-pub record Room (rows : List ℕ) (n : StmtNo) (a : HaltNo) (t : Stmt) : Type 0 where
-  pub inside : of_stmt n + size t ≤ length rows
-  pub numbers : of_stmt n + size t < stmt_span
-  pub halts : of_halt a + halt_count t < field_span
-  pub operands : Small t
-
--- and so have the rows of its parts
-room_one : (rows : List ℕ) (n : StmtNo) (a : HaltNo) (u : Unary) (p : Stmt) → Room rows n a (one u p) → Room rows (further n 1) a p
-unfolding size halt_count Small
-room_one rows n a u p r =
-    record { inside = omega (arith, r.inside); numbers = omega (arith, r.numbers); halts = r.halts; operands = r.operands.1 }
-
-room_left : (rows : List ℕ) (n : StmtNo) (a : HaltNo) (b : Binary) (p q : Stmt) → Room rows n a (two b p q) → Room rows (further n 1) a p
-unfolding size halt_count Small
-room_left rows n a b p q r =
-    record {
-      inside = omega (arith, r.inside);
-      numbers = omega (arith, r.numbers);
-      halts = omega (arith, r.halts);
-      operands = r.operands.1;
-    }
-
-room_right : (rows rows' : List ℕ) (n : StmtNo) (a : HaltNo) (b : Binary) (p q : Stmt) → length rows' ≡ length rows
-    → Room rows n a (two b p q) → Room rows' (further n (1 + size p)) (halts_on a (halt_count p)) q
-unfolding size halt_count Small
-room_right rows rows' n a b p q len r =
-    record {
-      inside = omega (arith, r.inside);
-      numbers = omega (arith, r.numbers);
-      halts = omega (arith, r.halts);
-      operands = r.operands.2;
-    }
-
 -- the row that was written last, over rows of the same length, is there, and is read back
-row_laid : (rows rows' : List ℕ) (n : StmtNo) (a : HaltNo) (t : Stmt) → length rows' ≡ length rows → Room rows n a t
-    → (of_stmt n < length (set rows' (of_stmt n) (packed (row_of n a t))))
-    × (row_at (set rows' (of_stmt n) (packed (row_of n a t))) n ≡ row_of n a t)
+row_laid : (rows rows' : List Row) (n : StmtNo) (a : HaltNo) (t : Stmt) → length rows' ≡ length rows → of_stmt n + size t ≤ length rows
+    → (of_stmt n < length (set rows' (of_stmt n) (row_of n a t))) × (row_at (set rows' (of_stmt n) (row_of n a t)) n ≡ row_of n a t)
 row_laid rows rows' n a t len r =
-    let w : ℕ = packed (row_of n a t) in
+    let w : Row = row_of n a t in
     let some : 1 ≤ size t = size_pos t in
-    let inside : of_stmt n < length rows' = omega (arith, r.inside) in (
-      omega (arith, length-set rows' (of_stmt n) w),
-      ap unpacked (get_or-set_same rows' (of_stmt n) w 0 inside)
-          ∙ unpacked_packed (row_of n a t) r.numbers (small_head t r.operands) (omega (arith, r.halts)) r.halts,
-    )
+    let inside : of_stmt n < length rows' = omega arith in
+    (omega (arith, length-set rows' (of_stmt n) w), get_or-set_same rows' (of_stmt n) w empty_row inside)
 
 -- rows that were laid hold their statement
-pub holds_laid : (rows : List ℕ) (n : StmtNo) (a : HaltNo) (t : Stmt) → Room rows n a t → Holds (lay rows n a t) n a t
+pub holds_laid : (rows : List Row) (n : StmtNo) (a : HaltNo) (t : Stmt) → of_stmt n + size t ≤ length rows → Holds (lay rows n a t) n a t
 unfolding lay Holds size
 holds_laid rows n a (leaf l) r = row_laid rows rows n a (leaf l) refl r
 holds_laid rows n a (one u p) r =
     let n₁ : StmtNo = further n 1 in
-    let rows₁ : List ℕ = lay rows n₁ a p in
-    let w : ℕ = packed (row_of n a (one u p)) in
+    let rows₁ : List Row = lay rows n₁ a p in
+    let w : Row = row_of n a (one u p) in
     let row = row_laid rows rows₁ n a (one u p) (length_lay rows n₁ a p) r in
-    let part = holds_laid rows n₁ a p (room_one rows n a u p r) in
-    let kept : Agree rows₁ (set rows₁ (of_stmt n) w) n₁ (size p) = λ j x y. get_or-set_other rows₁ (of_stmt n) j w 0 (omega arith) in
+    let part = holds_laid rows n₁ a p (omega arith) in
+    let kept : Agree rows₁ (set rows₁ (of_stmt n) w) n₁ (size p) = λ j x y. get_or-set_other rows₁ (of_stmt n) j w empty_row (omega arith) in
     (row.0, row.1, holds_agree rows₁ (set rows₁ (of_stmt n) w) n₁ a p (length-set rows₁ (of_stmt n) w) kept part)
 holds_laid rows n a (two b p q) r =
     let n₁ : StmtNo = further n 1 in
     let n₂ : StmtNo = further n (1 + size p) in
     let a₂ : HaltNo = halts_on a (halt_count p) in
-    let rows₁ : List ℕ = lay rows n₁ a p in
-    let rows₂ : List ℕ = lay rows₁ n₂ a₂ q in
-    let w : ℕ = packed (row_of n a (two b p q)) in
-    let rows₃ : List ℕ = set rows₂ (of_stmt n) w in
+    let rows₁ : List Row = lay rows n₁ a p in
+    let rows₂ : List Row = lay rows₁ n₂ a₂ q in
+    let w : Row = row_of n a (two b p q) in
+    let rows₃ : List Row = set rows₂ (of_stmt n) w in
     let len₁ : length rows₁ ≡ length rows = length_lay rows n₁ a p in
     let len₂ : length rows₂ ≡ length rows₁ = length_lay rows₁ n₂ a₂ q in
     let len₃ : length rows₃ ≡ length rows₂ = length-set rows₂ (of_stmt n) w in
     let row = row_laid rows rows₂ n a (two b p q) (len₂ ∙ len₁) r in
-    let left = holds_laid rows n₁ a p (room_left rows n a b p q r) in
-    let right = holds_laid rows₁ n₂ a₂ q (room_right rows rows₁ n a b p q len₁ r) in
-    let same : (j : ℕ) → of_stmt n < j → get_or rows₃ j 0 ≡ get_or rows₂ j 0 = λ j x. get_or-set_other rows₂ (of_stmt n) j w 0 (omega arith) in
+    let left = holds_laid rows n₁ a p (omega arith) in
+    let right = holds_laid rows₁ n₂ a₂ q (omega arith) in
+    let same : (j : ℕ) → of_stmt n < j → get_or rows₃ j empty_row ≡ get_or rows₂ j empty_row = λ j x. get_or-set_other rows₂ (of_stmt n) j w empty_row (omega arith) in
     let kept₁ : Agree rows₁ rows₃ n₁ (size p) = λ j x y. same j (omega arith) ∙ lay_below rows₁ n₂ a₂ q j (omega arith) in
     let kept₂ : Agree rows₂ rows₃ n₂ (size q) = λ j x y. same j (omega arith) in
     (row.0, row.1, holds_agree rows₁ rows₃ n₁ a p (len₃ ∙ len₂) kept₁ left, holds_agree rows₂ rows₃ n₂ a₂ q len₃ kept₂ right)
 
--- a statement in its place is small
-module _ (i n : ℕ) (few : n ≤ max_signals) where
-  small_leaf : (d : ℕ) (a : HaltNo) (l : Leaf) → of_halt a ≤ max_halts → d ≤ max_traps → Numbered a (leaf l) → Scoped i n (leaf l)
-      → Exits d (leaf l) → leaf_operand l < field_span
-  unfolding Numbered Scoped Exits
-  small_leaf d a Nothing halts traps h s x = omega arith
-  small_leaf d a (Halt k) halts traps h s x = let same : of_halt k ≡ of_halt a = ap (λ (y : HaltNo). of_halt y) h in omega arith
-  small_leaf d a (Emit y) halts traps h s x = omega (arith, s.1)
-  small_leaf d a (Exit k) halts traps h s x = omega (arith, x.1)
-
-  small_binary : (b : Binary) → BinaryScoped n b → binary_operand b < field_span
-  small_binary Sequence y = omega arith
-  small_binary (Present z) y = omega arith
-  small_binary Parallel y = omega arith
-
-  small_placed : (d : ℕ) (a : HaltNo) (t : Stmt) → of_halt a + halt_count t ≤ max_halts → d ≤ max_traps → Numbered a t → Scoped i n t
-      → Exits d t → Small t
-  unfolding Numbered Scoped Exits Small halt_count
-  small_placed d a (leaf l) halts traps h s x = small_leaf d a l (omega arith) traps h s x
-  small_placed d a (one Loop p) halts traps h s x = (omega arith, small_placed d a p halts traps h s.1 x.1)
-  small_placed d a (one (Watching y) p) halts traps h s x = (omega (arith, s.0), small_placed d a p halts traps h s.1 x.1)
-  small_placed d a (one Trap p) halts traps h s x =
-      (omega arith, small_placed (d + 1) a p halts (omega (arith, x.0)) h s.1 x.1)
-  small_placed d a (one (Signal y) p) halts traps h s x = (omega (arith, s.0), small_placed d a p halts traps h s.1 x.1)
-  small_placed d a (two b p q) halts traps h s x = (
-    small_binary b s.0,
-    small_placed d a p (omega arith) traps h.0 s.1 x.0,
-    small_placed d (halts_on a (halt_count p)) q (omega arith) traps h.1 s.2 x.1,
-  )
-
 -- the rows of a whole sheet
-pub holds_proper : (i o : ℕ) (rows : List ℕ) (t : Stmt) → Proper i o t → max_statements ≤ length rows
+pub holds_proper : (i o : ℕ) (rows : List Row) (t : Stmt) → Proper i o t → max_statements ≤ length rows
     → Holds (lay rows (stmt_no 0) (halt_no 0) t) (stmt_no 0) (halt_no 0) t
-holds_proper i o rows t h room =
-    holds_laid rows (stmt_no 0) (halt_no 0) t (record {
-      inside = omega (arith, h.statements);
-      numbers = omega (arith, h.statements);
-      halts = omega (arith, h.halts);
-      operands =
-          small_placed i (1 + i + o + local_count t) h.signals 0 (halt_no 0) t (omega (arith, h.halts)) (omega arith)
-          (proper_numbered h) (proper_scoped h) (proper_exits h);
-    })
+holds_proper i o rows t h room = holds_laid rows (stmt_no 0) (halt_no 0) t (omega (arith, h.statements))
 
 -- What rows that hold t say. Its own row, and that all its rows are there:
-module _ (rows : List ℕ) (n : StmtNo) (a : HaltNo) where
+module _ (rows : List Row) (n : StmtNo) (a : HaltNo) where
   pub row_of_lem : (t : Stmt) → Holds rows n a t → row_at rows n ≡ row_of n a t
   unfolding Holds
   row_of_lem (leaf l) h = h.1
@@ -270,27 +144,20 @@ module _ (rows : List ℕ) (n : StmtNo) (a : HaltNo) where
   pub past_of : (t : Stmt) → Holds rows n a t → (row_at rows n).past ≡ halts_on a (halt_count t)
   past_of t h = ap (λ (r : Row). r.past) (row_of_lem t h)
 
-pub all_within : (rows : List ℕ) (n : StmtNo) (a : HaltNo) (t : Stmt) → Holds rows n a t → of_stmt n + size t ≤ length rows
+pub all_within : (rows : List Row) (n : StmtNo) (a : HaltNo) (t : Stmt) → Holds rows n a t → of_stmt n + size t ≤ length rows
 unfolding Holds size
 all_within rows n a (leaf l) h = omega (arith, h.0)
 all_within rows n a (one u p) h = omega (arith, all_within rows (further n 1) a p h.2)
 all_within rows n a (two b p q) h = omega (arith, all_within rows (further n (1 + size p)) (halts_on a (halt_count p)) q h.3)
 
--- a row's fields are small, so the numbers past t, and past its halts, are
-pub few_numbers : (rows : List ℕ) (n : StmtNo) (a : HaltNo) (t : Stmt) → Holds rows n a t → of_stmt n + size t < stmt_span
-unfolding unpacked
-few_numbers rows n a t h =
-    let end : get_or rows (of_stmt n) 0 / kind_span % stmt_span ≡ of_stmt n + size t = ap (λ (k : StmtNo). of_stmt k) (end_of rows n a t h) in
-    omega arith
-
 -- what a row's head says of t, and where the rows hold its parts
-pub record IsOne (rows : List ℕ) (n : StmtNo) (a : HaltNo) (t : Stmt) (u : Unary) : Type 0 where
+pub record IsOne (rows : List Row) (n : StmtNo) (a : HaltNo) (t : Stmt) (u : Unary) : Type 0 where
   pub part : Stmt
   pub is : t ≡ one u part
   pub holds : Holds rows (further n 1) a part
 
 -- the second part's number is the end of the first one's row
-pub record IsTwo (rows : List ℕ) (n : StmtNo) (a : HaltNo) (t : Stmt) (b : Binary) : Type 0 where
+pub record IsTwo (rows : List Row) (n : StmtNo) (a : HaltNo) (t : Stmt) (b : Binary) : Type 0 where
   pub left : Stmt
   pub right : Stmt
   pub is : t ≡ two b left right
@@ -298,7 +165,7 @@ pub record IsTwo (rows : List ℕ) (n : StmtNo) (a : HaltNo) (t : Stmt) (b : Bin
   pub holds_right : Holds rows (further n (1 + size left)) (halts_on a (halt_count left)) right
   pub second : (row_at rows (further n 1)).end ≡ further n (1 + size left)
 
-module _ (rows : List ℕ) (n : StmtNo) (a : HaltNo) where
+module _ (rows : List Row) (n : StmtNo) (a : HaltNo) where
   pub is_leaf : (t : Stmt) → Holds rows n a t → {l : Leaf} → (row_at rows n).head ≡ Zero l → t ≡ leaf l
   unfolding head_of
   is_leaf (leaf l') h e = let w = sym (head_of_lem rows n a (leaf l') h) ∙ e in cc w
@@ -340,7 +207,7 @@ module _ (rows : List ℕ) (n : StmtNo) (a : HaltNo) where
   holds_second k = rw k.second k.holds_right
 
 -- Where some statement stands: its rows are there, its end lies past it, and its parts stand where a walk goes on.
-module _ {rows : List ℕ} {n : StmtNo} (tree : Tree rows n) where
+module _ {rows : List Row} {n : StmtNo} (tree : Tree rows n) where
   pub tree_within : of_stmt n < length rows
   tree_within = within rows n tree.first tree.stmt tree.holds
 
@@ -353,6 +220,8 @@ module _ {rows : List ℕ} {n : StmtNo} (tree : Tree rows n) where
       (omega arith, omega arith)
 
   pub tree_left : {b : Binary} → (row_at rows n).head ≡ Two b → Tree rows (further n 1)
+  unfolding size
   tree_left e =
       let k = is_two rows n tree.first tree.stmt tree.holds e in
-      record { first = tree.first; stmt = k.left; holds = k.holds_left }
+      let whole : size tree.stmt ≡ 1 + size k.left + size k.right = ap size k.is in
+      record { first = tree.first; stmt = k.left; holds = k.holds_left; small = omega (arith, whole, tree.small) }

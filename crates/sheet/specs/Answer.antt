@@ -1,10 +1,9 @@
 -- What is answered of a sheet that was read.
-use Rattle.std.specs.Prelude.{◌+◌}
+use Rattle.std.specs.Prelude.{◌+◌, Result, Ok, Err}
 use Rattle.sheet.specs.declared.Counts.{Counts}
-use Rattle.sheet.specs.declared.SheetRead.{SheetRead}
-use Rattle.sheet.specs.declared.SheetRead.TheVariants.{Read, Refused}
 use Rattle.sheet.specs.Stmt.{size, halt_count, local_count}
 use Rattle.sheet.specs.Read.{Sheet, SheetOutcome, sheet, faulty}
+use Rattle.number.specs.declared.Fault.{Fault}
 
 -- how many of each a sheet has; signals with tick
 abbrev pub counts_of : Sheet → Counts
@@ -17,6 +16,6 @@ counts_of w =
       signals = 1 + w.inputs + w.outputs + local_count w.root;
     }
 
-unfoldable pub sheet_answer : SheetOutcome → SheetRead
-sheet_answer (sheet w) = Read (counts_of w)
-sheet_answer (faulty f) = Refused f
+unfoldable pub sheet_answer : SheetOutcome → Result Counts Fault
+sheet_answer (sheet w) = Ok (counts_of w)
+sheet_answer (faulty f) = Err f

@@ -6,17 +6,16 @@ ghost use Rattle.number.specs.Counts.{of_stmt};
 ghost use Rattle.number.specs.Number.{number_at};
 ghost use Rattle.number.specs.Refusals.{fault};
 ghost use Rattle.limits.specs.Limits.{max_statements, max_level, max_signals};
-ghost use Rattle.sheet.specs.Stmt.{kind_of};
 ghost use Rattle.sheet.specs.Read.{past, signal_at, naming, emitting, exiting, halt_at, local_at, trap_at};
 ghost use Rattle.sheet.specs.Read.{of_kind, head_at, inside, further, read_stmt, root_read, read_sheet};
-ghost use Rattle.sheet.specs.Rows.{kind_span, stmt_span, operand_of, head_from, packed, unpacked, row_at};
+ghost use Rattle.sheet.specs.Rows.{stmt_span, empty_row, row_at};
 ghost use Rattle.sheet.specs.Contract.{around, LocalFits, Noted, DidStmt, DidSheet};
 
 use bits::Bits;
-use number::{Cursor, Fault, HaltNo, NumberRead, Refusal, SignalNo, StmtNo};
+use number::{Cursor, Fault, HaltNo, Refusal, SignalNo, StmtNo};
 
 // A statement without parts, and what is said of one with one or two before its parts.
-#[derive(Clone, Copy)]
+#[derive(Clone, Copy, Debug, PartialEq, Eq)]
 pub enum Leaf {
     Nothing,
     Halt(HaltNo),
@@ -24,7 +23,7 @@ pub enum Leaf {
     Exit(u16),
 }
 
-#[derive(Clone, Copy)]
+#[derive(Clone, Copy, Debug, PartialEq, Eq)]
 pub enum Unary {
     Loop,
     Watching(SignalNo),
@@ -32,14 +31,14 @@ pub enum Unary {
     Signal(SignalNo),
 }
 
-#[derive(Clone, Copy)]
+#[derive(Clone, Copy, Debug, PartialEq, Eq)]
 pub enum Binary {
     Sequence,
     Present(SignalNo),
     Parallel,
 }
 
-#[derive(Clone, Copy)]
+#[derive(Clone, Copy, Debug, PartialEq, Eq)]
 pub enum Head {
     Zero(Leaf),
     One(Unary),
@@ -47,7 +46,7 @@ pub enum Head {
 }
 
 // Where the reader is: the offset, the next halt's number and the next local's.
-#[derive(Clone, Copy)]
+#[derive(Clone, Copy, Debug, PartialEq, Eq)]
 pub struct Marks {
     pub at: usize,
     pub halts: HaltNo,
@@ -55,36 +54,15 @@ pub struct Marks {
 }
 
 // What holds around a statement: the number of inputs and of traps, and the set of the signals that may be named.
-#[derive(Clone, Copy)]
+#[derive(Clone, Copy, Debug, PartialEq, Eq)]
 pub struct Env {
     pub inputs: u16,
     pub traps: u16,
     pub scope: Bits,
 }
 
-// A signal that was named, or the refusal.
-#[derive(Clone, Copy)]
-pub enum SignalRead {
-    Named(SignalNo, Marks),
-    Refused(Fault),
-}
-
-// A statement's kind with its operand, or the refusal.
-#[derive(Clone, Copy)]
-pub enum HeadRead {
-    Read(Head, Marks),
-    Refused(Fault),
-}
-
-// The number past a statement that was read, or the refusal.
-#[derive(Clone, Copy)]
-pub enum StmtRead {
-    Next(StmtNo, Marks),
-    Refused(Fault),
-}
-
 // How many of each a sheet has; signals with tick.
-#[derive(Clone, Copy)]
+#[derive(Clone, Copy, Debug, PartialEq, Eq)]
 pub struct Counts {
     pub inputs: u16,
     pub outputs: u16,
@@ -93,14 +71,8 @@ pub struct Counts {
     pub signals: u16,
 }
 
-#[derive(Clone, Copy)]
-pub enum SheetRead {
-    Read(Counts),
-    Refused(Fault),
-}
-
 // What a row says: the statement without its parts, the number past its last part, its first halt and the one past its last.
-#[derive(Clone, Copy)]
+#[derive(Clone, Copy, Debug, PartialEq, Eq)]
 pub struct Row {
     pub head: Head,
     pub end: StmtNo,
@@ -113,171 +85,137 @@ impl Marks {
     fn past(self, c: Cursor) -> Marks
         ensures { result ≡ past self c.at }
     {
-        let halts = self.halts;
-        let signals = self.signals;
-        Marks {
-            at: c.at,
-            halts,
-            signals,
-        }
+        Marks { at: c.at, ..self }
     }
 }
 
-fn refused(refusal: Refusal, place: usize) -> HeadRead
-    ensures { result ≡ HeadRead.Refused (fault refusal place) }
-{
-    HeadRead::Refused(Fault { refusal, place })
-}
-
-// The signal that an operand names: SCOPE.
-fn read_signal(s: &[u8], e: Env, m: Marks) -> SignalRead
+// The signal that an operand names: SCOPE. Every number read in this file is taken apart in the paper's named form, a `let .. else` with a `return`, and not by `?`.
+// The bytes, the Env and the marks go apart through the readers, since each part has marks of its own, and some an Env of their own.
+fn read_signal(s: &[u8], e: Env, m: Marks) -> Result<(SignalNo, Marks), Fault>
     ensures { result ≡ signal_at s.now (around e) m }
 {
     let at = m.at;
-    let r = number::read_number(s, at);
-    let NumberRead::Value(v, next) = r else {
-        return SignalRead::Refused(number::fault_of(r));
+    let read = number::read_number(s, at);
+    let Ok((v, next)) = read else {
+        return Err(read.unwrap_err());
     };
     let scope = e.scope;
     if scope.member(v) {
-        return SignalRead::Named(SignalNo::new(v as u16), m.past(next));
+        return Ok((SignalNo::new(v as u16), m.past(next)));
     }
-    SignalRead::Refused(Fault {
-        refusal: Refusal::Scope,
-        place: at,
-    })
+    Err(Refusal::Scope.at(at))
 }
 
 // The operand of an emit: SCOPE, then EMIT.
-fn emit_head(s: &[u8], e: Env, m: Marks) -> HeadRead
+fn emit_head(s: &[u8], e: Env, m: Marks) -> Result<(Head, Marks), Fault>
     ensures { result ≡ emitting (around e) m.at (signal_at s.now (around e) m) }
 {
     let at = m.at;
-    match read_signal(s, e, m) {
-        SignalRead::Refused(f) => HeadRead::Refused(f),
-        SignalRead::Named(x, next) => {
-            if limits::tick_or_input(x, e.inputs) {
-                return refused(Refusal::Emit, at);
-            }
-            HeadRead::Read(Head::Zero(Leaf::Emit(x)), next)
-        }
+    let (x, next) = read_signal(s, e, m)?;
+    if limits::tick_or_input(x, e.inputs) {
+        return Err(Refusal::Emit.at(at));
     }
+    Ok((Head::Zero(Leaf::Emit(x)), next))
 }
 
-fn present_head(s: &[u8], e: Env, m: Marks) -> HeadRead
+// This head and the next differ in the kind alone. One function that takes the kind as a closure would be no plainer: its proof would have to name what the closure
+// makes.
+fn present_head(s: &[u8], e: Env, m: Marks) -> Result<(Head, Marks), Fault>
     ensures { result ≡ naming (λ x. Head.Two (Binary.Present x)) (signal_at s.now (around e) m) }
 {
-    match read_signal(s, e, m) {
-        SignalRead::Refused(f) => HeadRead::Refused(f),
-        SignalRead::Named(x, next) => HeadRead::Read(Head::Two(Binary::Present(x)), next),
-    }
+    let (x, next) = read_signal(s, e, m)?;
+    Ok((Head::Two(Binary::Present(x)), next))
 }
 
-fn watching_head(s: &[u8], e: Env, m: Marks) -> HeadRead
+fn watching_head(s: &[u8], e: Env, m: Marks) -> Result<(Head, Marks), Fault>
     ensures { result ≡ naming (λ x. Head.One (Unary.Watching x)) (signal_at s.now (around e) m) }
 {
-    match read_signal(s, e, m) {
-        SignalRead::Refused(f) => HeadRead::Refused(f),
-        SignalRead::Named(x, next) => HeadRead::Read(Head::One(Unary::Watching(x)), next),
-    }
+    let (x, next) = read_signal(s, e, m)?;
+    Ok((Head::One(Unary::Watching(x)), next))
 }
 
 // The level of an exit: EXIT unless it is 2..1+d.
-fn exit_head(s: &[u8], e: Env, m: Marks) -> HeadRead
+fn exit_head(s: &[u8], e: Env, m: Marks) -> Result<(Head, Marks), Fault>
     requires { e.traps ≤ max_level }
     ensures { result ≡ exiting (around e) m (number_at s.now m.at) }
 {
     let at = m.at;
-    let r = number::read_number(s, at);
-    let NumberRead::Value(k, next) = r else {
-        return HeadRead::Refused(number::fault_of(r));
+    let read = number::read_number(s, at);
+    let Ok((k, next)) = read else {
+        return Err(read.unwrap_err());
     };
     if limits::no_level(k, e.traps) {
-        return refused(Refusal::Exit, at);
+        return Err(Refusal::Exit.at(at));
     }
-    HeadRead::Read(Head::Zero(Leaf::Exit(k as u16)), m.past(next))
+    Ok((Head::Zero(Leaf::Exit(k as u16)), m.past(next)))
 }
 
 // A halt takes the next halt's number: COUNT past the last.
-fn halt_head(place: usize, m: Marks) -> HeadRead
+fn halt_head(place: usize, m: Marks) -> Result<(Head, Marks), Fault>
     ensures { result ≡ halt_at place m }
 {
     let halt = m.halts;
-    let signals = m.signals;
     if limits::halts_full(halt) {
-        return refused(Refusal::Count, place);
+        return Err(Refusal::Count.at(place));
     }
     let halts = HaltNo::new(halt.number() + 1);
-    HeadRead::Read(
-        Head::Zero(Leaf::Halt(halt)),
-        Marks {
-            at: m.at,
-            halts,
-            signals,
-        },
-    )
+    let next = Marks { halts, ..m };
+    Ok((Head::Zero(Leaf::Halt(halt)), next))
 }
 
 // A signal statement takes the next signal's number: COUNT past the last.
-fn local_head(place: usize, m: Marks) -> HeadRead
+fn local_head(place: usize, m: Marks) -> Result<(Head, Marks), Fault>
     ensures { result ≡ local_at place m }
 {
     let signal = m.signals;
-    let halts = m.halts;
     if limits::signals_full(signal) {
-        return refused(Refusal::Count, place);
+        return Err(Refusal::Count.at(place));
     }
     let signals = SignalNo::new(signal.number() + 1);
-    HeadRead::Read(
-        Head::One(Unary::Signal(signal)),
-        Marks {
-            at: m.at,
-            halts,
-            signals,
-        },
-    )
+    let next = Marks { signals, ..m };
+    Ok((Head::One(Unary::Signal(signal)), next))
 }
 
 // A trap: COUNT past so many one in another.
-fn trap_head(place: usize, e: Env, m: Marks) -> HeadRead
+fn trap_head(place: usize, e: Env, m: Marks) -> Result<(Head, Marks), Fault>
     ensures { result ≡ trap_at place (around e) m }
 {
     if limits::traps_full(e.traps) {
-        return refused(Refusal::Count, place);
+        return Err(Refusal::Count.at(place));
     }
-    HeadRead::Read(Head::One(Unary::Trap), m)
+    Ok((Head::One(Unary::Trap), m))
 }
 
 // The statement of kind k, which was read at `place`; m is past its kind.
-fn head_of_kind(s: &[u8], e: Env, place: usize, k: u32, m: Marks) -> HeadRead
+fn head_of_kind(s: &[u8], e: Env, place: usize, k: u32, m: Marks) -> Result<(Head, Marks), Fault>
     requires { e.traps ≤ max_level }
     ensures { result ≡ of_kind s.now (around e) place m k }
 {
     match k {
-        0 => HeadRead::Read(Head::Zero(Leaf::Nothing), m),
+        0 => Ok((Head::Zero(Leaf::Nothing), m)),
         1 => halt_head(place, m),
         2 => emit_head(s, e, m),
-        3 => HeadRead::Read(Head::Two(Binary::Sequence), m),
-        4 => HeadRead::Read(Head::One(Unary::Loop), m),
+        3 => Ok((Head::Two(Binary::Sequence), m)),
+        4 => Ok((Head::One(Unary::Loop), m)),
         5 => present_head(s, e, m),
         6 => watching_head(s, e, m),
-        7 => HeadRead::Read(Head::Two(Binary::Parallel), m),
+        7 => Ok((Head::Two(Binary::Parallel), m)),
         8 => trap_head(place, e, m),
         9 => exit_head(s, e, m),
         10 => local_head(place, m),
-        _ => refused(Refusal::Kind, place),
+        _ => Err(Refusal::Kind.at(place)),
     }
 }
 
 // The head of the statement at the marks.
-fn read_head(s: &[u8], e: Env, m: Marks) -> HeadRead
+fn read_head(s: &[u8], e: Env, m: Marks) -> Result<(Head, Marks), Fault>
     requires { e.traps ≤ max_level }
     ensures { result ≡ head_at s.now (around e) m }
 {
     let at = m.at;
-    let r = number::read_number(s, at);
-    let NumberRead::Value(k, next) = r else {
-        return HeadRead::Refused(number::fault_of(r));
+    let read = number::read_number(s, at);
+    let Ok((k, next)) = read else {
+        return Err(read.unwrap_err());
     };
     head_of_kind(s, e, at, k, m.past(next))
 }
@@ -292,141 +230,36 @@ fn inner(e: Env, u: Unary) -> Env
         Unary::Loop => e,
         Unary::Watching(_) => e,
         Unary::Trap => Env {
-            inputs: e.inputs,
             traps: e.traps + 1,
-            scope,
+            ..e
         },
         Unary::Signal(x) => Env {
-            inputs: e.inputs,
-            traps: e.traps,
             scope: scope.add(bits::signal_bit(x)),
+            ..e
         },
     }
 }
 
-// A head's kind and operand as numbers.
-fn kind_no(h: Head) -> u8
-    ensures { (result ≡ kind_of h) × (result < kind_span) }
-{
-    match h {
-        Head::Zero(l) => match l {
-            Leaf::Nothing => 0,
-            Leaf::Halt(_) => 1,
-            Leaf::Emit(_) => 2,
-            Leaf::Exit(_) => 9,
-        },
-        Head::One(u) => match u {
-            Unary::Loop => 4,
-            Unary::Watching(_) => 6,
-            Unary::Trap => 8,
-            Unary::Signal(_) => 10,
-        },
-        Head::Two(b) => match b {
-            Binary::Sequence => 3,
-            Binary::Present(_) => 5,
-            Binary::Parallel => 7,
-        },
-    }
-}
-
-fn operand_no(h: Head) -> u16
-    ensures { result ≡ operand_of h }
-{
-    match h {
-        Head::Zero(l) => match l {
-            Leaf::Nothing => 0,
-            Leaf::Halt(h) => h.number(),
-            Leaf::Emit(s) => s.number(),
-            Leaf::Exit(k) => k,
-        },
-        Head::One(u) => match u {
-            Unary::Loop => 0,
-            Unary::Watching(s) => s.number(),
-            Unary::Trap => 0,
-            Unary::Signal(s) => s.number(),
-        },
-        Head::Two(b) => match b {
-            Binary::Sequence => 0,
-            Binary::Present(s) => s.number(),
-            Binary::Parallel => 0,
-        },
-    }
-}
-
-// A row in a word: 4 bits for the kind, 12 for the end, 16 each for the operand, the first halt and the one past the last.
-const KIND_SPAN: u64 = 16;
-
-const STMT_SPAN: u64 = 4096;
-
-const FIELD_SPAN: u64 = 65536;
-
-const OPERAND_AT: u64 = KIND_SPAN * STMT_SPAN;
-
-const FIRST_AT: u64 = OPERAND_AT * FIELD_SPAN;
-
-const PAST_AT: u64 = FIRST_AT * FIELD_SPAN;
-
-fn pack(r: Row) -> u64
-    requires { of_stmt r.end < stmt_span }
-    ensures { result ≡ packed r }
-{
-    let head = r.head;
-    let end = r.end;
-    let first = r.first;
-    let past = r.past;
-    kind_no(head) as u64
-        + KIND_SPAN * (end.number() as u64)
-        + OPERAND_AT * (operand_no(head) as u64)
-        + FIRST_AT * (first.number() as u64)
-        + PAST_AT * (past.number() as u64)
-}
-
-// The head that a kind and an operand say.
-fn head_from(kind: u64, x: u16) -> Head
-    ensures { result ≡ head_from kind x }
-{
-    match kind {
-        1 => Head::Zero(Leaf::Halt(HaltNo::new(x))),
-        2 => Head::Zero(Leaf::Emit(SignalNo::new(x))),
-        3 => Head::Two(Binary::Sequence),
-        4 => Head::One(Unary::Loop),
-        5 => Head::Two(Binary::Present(SignalNo::new(x))),
-        6 => Head::One(Unary::Watching(SignalNo::new(x))),
-        7 => Head::Two(Binary::Parallel),
-        8 => Head::One(Unary::Trap),
-        9 => Head::Zero(Leaf::Exit(x)),
-        10 => Head::One(Unary::Signal(SignalNo::new(x))),
-        _ => Head::Zero(Leaf::Nothing),
-    }
-}
-
-fn unpack(w: u64) -> Row
-    ensures { result ≡ unpacked w }
-{
-    Row {
-        head: head_from(w % KIND_SPAN, (w / OPERAND_AT % FIELD_SPAN) as u16),
-        end: StmtNo::new((w / KIND_SPAN % STMT_SPAN) as u16),
-        first: HaltNo::new((w / FIRST_AT % FIELD_SPAN) as u16),
-        past: HaltNo::new((w / PAST_AT % FIELD_SPAN) as u16),
+impl Row {
+    // What stands at a number where no statement was read.
+    pub fn empty() -> Row
+        ensures { result ≡ empty_row }
+    {
+        Row {
+            head: Head::Zero(Leaf::Nothing),
+            end: StmtNo::new(0),
+            first: HaltNo::new(0),
+            past: HaltNo::new(0),
+        }
     }
 }
 
 // The row of statement n.
-pub fn row_at(rows: &[u64], n: StmtNo) -> Row
+pub fn row_at(rows: &[Row], n: StmtNo) -> Row
     requires { of_stmt n < length rows.now }
     ensures { result ≡ row_at rows.now n }
 {
-    let i = n.number() as usize;
-    unpack(rows[i])
-}
-
-// Writes the row of statement n.
-fn note(rows: &mut [u64], n: StmtNo, r: Row)
-    requires { (of_stmt n < length rows.old) × (of_stmt r.end < stmt_span) }
-    ensures { rows.new ≡ set rows.old (of_stmt n) (packed r) }
-{
-    let i = n.number() as usize;
-    rows[i] = pack(r);
+    rows[n.number() as usize]
 }
 
 // The number after n: that of its first part, if it has any.
@@ -438,7 +271,7 @@ pub fn first_part(n: StmtNo) -> StmtNo
 }
 
 // The number of the second part of n: the end of its first part.
-pub fn second_part(rows: &[u64], n: StmtNo) -> StmtNo
+pub fn second_part(rows: &[Row], n: StmtNo) -> StmtNo
     requires { (of_stmt n < stmt_span) × (of_stmt n + 1 < length rows.now) }
     ensures { result ≡ (row_at rows.now (further n 1)).end }
 {
@@ -447,67 +280,65 @@ pub fn second_part(rows: &[u64], n: StmtNo) -> StmtNo
 }
 
 // A statement whose parts, if any, were read: m stands before it, and `end` and `after` are past it.
-fn noted(rows: &mut [u64], n: StmtNo, head: Head, m: Marks, end: StmtNo, after: Marks) -> StmtRead
-    requires { (of_stmt n < length rows.old) × (of_stmt end < stmt_span) }
+fn noted(
+    rows: &mut [Row],
+    n: StmtNo,
+    head: Head,
+    m: Marks,
+    end: StmtNo,
+    after: Marks,
+) -> (StmtNo, Marks)
+    requires { of_stmt n < length rows.old }
     ensures { Noted n head m end after result rows.old rows.new }
 {
     let first = m.halts;
     let past = after.halts;
-    note(
-        rows,
-        n,
-        Row {
-            head,
-            end,
-            first,
-            past,
-        },
-    );
-    StmtRead::Next(end, after)
+    rows[n.number() as usize] = Row {
+        head,
+        end,
+        first,
+        past,
+    };
+    (end, after)
 }
 
 // The statement n, where `left` levels are left: its rows and those of its parts.
-fn read_stmt(s: &[u8], rows: &mut [u64], left: usize, e: Env, n: StmtNo, m: Marks) -> StmtRead
+fn read_stmt(
+    s: &[u8],
+    rows: &mut [Row],
+    left: usize,
+    e: Env,
+    n: StmtNo,
+    m: Marks,
+) -> Result<(StmtNo, Marks), Fault>
     requires { (max_statements ≤ length rows.old) × (e.traps + left ≤ max_level) }
     ensures { DidStmt n m.halts (read_stmt left s.now (around e) n m) result rows.old rows.new }
 {
     let at = m.at;
     if left == 0 {
-        return StmtRead::Refused(Fault {
-            refusal: Refusal::Count,
-            place: at,
-        });
+        return Err(Refusal::Count.at(at));
     }
     if limits::statements_full(n) {
-        return StmtRead::Refused(Fault {
-            refusal: Refusal::Count,
-            place: at,
-        });
+        return Err(Refusal::Count.at(at));
     }
     let next = first_part(n);
-    match read_head(s, e, m) {
-        HeadRead::Refused(f) => StmtRead::Refused(f),
-        HeadRead::Read(head, m1) => match head {
-            Head::Zero(_) => noted(rows, n, head, m, next, m1),
-            Head::One(u) => {
-                match read_stmt(s, rows, left - 1, inner(e, u), next, m1) {
-                    StmtRead::Refused(f) => StmtRead::Refused(f),
-                    StmtRead::Next(end, m2) => noted(rows, n, Head::One(u), m, end, m2),
-                }
-            }
-            Head::Two(_) => match read_stmt(s, rows, left - 1, e, next, m1) {
-                StmtRead::Refused(f) => StmtRead::Refused(f),
-                StmtRead::Next(middle, m2) => match read_stmt(s, rows, left - 1, e, middle, m2) {
-                    StmtRead::Refused(f) => StmtRead::Refused(f),
-                    StmtRead::Next(end, m3) => noted(rows, n, head, m, end, m3),
-                },
-            },
-        },
+    let (head, m1) = read_head(s, e, m)?;
+    match head {
+        Head::Zero(_) => Ok(noted(rows, n, head, m, next, m1)),
+        Head::One(u) => {
+            let (end, m2) = read_stmt(s, rows, left - 1, inner(e, u), next, m1)?;
+            Ok(noted(rows, n, Head::One(u), m, end, m2))
+        }
+        Head::Two(_) => {
+            let (middle, m2) = read_stmt(s, rows, left - 1, e, next, m1)?;
+            let (end, m3) = read_stmt(s, rows, left - 1, e, middle, m2)?;
+            Ok(noted(rows, n, head, m, end, m3))
+        }
     }
 }
 
 // The statement of a sheet with i inputs and o outputs, and nothing after it.
-fn read_root(s: &[u8], rows: &mut [u64], i: u16, o: u16, at: usize) -> SheetRead
+fn read_root(s: &[u8], rows: &mut [Row], i: u16, o: u16, at: usize) -> Result<Counts, Fault>
     requires { (max_statements ≤ length rows.old) × (1 + i + o ≤ max_signals) }
     ensures { DidSheet (root_read s.now i o at) result rows.old rows.new }
 {
@@ -522,48 +353,38 @@ fn read_root(s: &[u8], rows: &mut [u64], i: u16, o: u16, at: usize) -> SheetRead
         halts: HaltNo::new(0),
         signals: SignalNo::new(n),
     };
-    match read_stmt(s, rows, limits::MAX_LEVEL as usize, e, StmtNo::new(0), m) {
-        StmtRead::Refused(f) => SheetRead::Refused(f),
-        StmtRead::Next(end, after) => {
-            let last = after.at;
-            if last < s.len() {
-                return SheetRead::Refused(Fault {
-                    refusal: Refusal::Extra,
-                    place: last,
-                });
-            }
-            let halts = after.halts;
-            let signals = after.signals;
-            SheetRead::Read(Counts {
-                inputs: i,
-                outputs: o,
-                statements: end.number(),
-                halts: halts.number(),
-                signals: signals.number(),
-            })
-        }
+    let (end, after) = read_stmt(s, rows, limits::MAX_LEVEL as usize, e, StmtNo::new(0), m)?;
+    let last = after.at;
+    if last < s.len() {
+        return Err(Refusal::Extra.at(last));
     }
+    let halts = after.halts;
+    let signals = after.signals;
+    Ok(Counts {
+        inputs: i,
+        outputs: o,
+        statements: end.number(),
+        halts: halts.number(),
+        signals: signals.number(),
+    })
 }
 
 // Reads a sheet into rows, one for each statement.
-pub fn read_sheet(s: &[u8], rows: &mut [u64]) -> SheetRead
+pub fn read_sheet(s: &[u8], rows: &mut [Row]) -> Result<Counts, Fault>
     requires { max_statements ≤ length rows.old }
     ensures { DidSheet (read_sheet s.now) result rows.old rows.new }
 {
-    let a = number::read_number(s, 0);
-    let NumberRead::Value(i, past_inputs) = a else {
-        return SheetRead::Refused(number::fault_of(a));
+    let inputs = number::read_number(s, 0);
+    let Ok((i, past_inputs)) = inputs else {
+        return Err(inputs.unwrap_err());
     };
     let second = past_inputs.at;
-    let b = number::read_number(s, second);
-    let NumberRead::Value(o, past_outputs) = b else {
-        return SheetRead::Refused(number::fault_of(b));
+    let outputs = number::read_number(s, second);
+    let Ok((o, past_outputs)) = outputs else {
+        return Err(outputs.unwrap_err());
     };
     if limits::header_full(i, o) {
-        return SheetRead::Refused(Fault {
-            refusal: Refusal::Count,
-            place: second,
-        });
+        return Err(Refusal::Count.at(second));
     }
     read_root(s, rows, i as u16, o as u16, past_outputs.at)
 }

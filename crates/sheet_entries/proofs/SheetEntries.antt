@@ -3,40 +3,37 @@ use mathlib.Core.Path.{◌≡◌, refl, sym, ◌∙◌}
 use mathlib.Core.Bool.{Bool, true, false}
 use mathlib.Core.List.{List}
 use Prim.Native.Nat.{ℕ}
-use native.Mathlib.Omega.{arith}
 use Rattle.number.specs.declared.Fault.{Fault}
 use Rattle.number.specs.declared.Refusal.TheVariants.{State}
 use Rattle.number.specs.Number.{pick}
 use Rattle.number.specs.Refusals.{refusal_no, fault}
 use Rattle.sheet.specs.declared.Counts.{Counts}
-use Rattle.sheet.specs.declared.SheetRead.{SheetRead}
-use Rattle.sheet.specs.declared.SheetRead.TheVariants.{Read, Refused as NotRead}
 use Rattle.sheet.specs.Read.{Sheet, SheetOutcome, sheet, faulty}
 use Rattle.sheet.specs.Answer.{counts_of, sheet_answer}
-use Rattle.rules.specs.Words.{Runnable, root, KnownRoot, Fitted}
-use Rattle.rules.proofs.Walks.{run_proper}
-use Rattle.rules.proofs.Fitting.{known_proper}
+use Rattle.rules.specs.Words.{Fitted}
 use Rattle.compiler.specs.Check.{Checks}
-use Rattle.interpreter.specs.Program.{PreparedAs, Prepares, AcceptedRuns}
-use Rattle.interpreter.proofs.Interpreting.{Compiled_as, accepted_proper}
-use Rattle.interpreter.specs.declared.Program.{Program}
+use Rattle.interpreter.specs.Program.{AcceptedRuns}
+use Rattle.interpreter.proofs.Interpreting.{Compiled_as}
 use Rattle.verdicts.specs.Answers.{verdict, answer_of, refusal, acceptance, with_state}
 use Rattle.verdicts.specs.Runs.{Asked, Told}
 use Rattle.verdicts.proofs.Running.{ran_stopped}
 use Rattle.sheet_entries.specs.Sheets.{reading_of, sheet_verdict, sheet_accepted, Checked, sheet_fits, Fitting, sheet_events, sheet_step, ReactedMany}
+use Rattle.std.specs.Prelude.{Result, Ok, Err}
+use Rattle.sets.specs.declared.Both.{Both}
+use Rattle.sheet.specs.declared.Row.{Row}
 
 -- reading alone
-pub read_refused : (o : SheetOutcome) {r : SheetRead} {f : Fault} {n : ℕ} → r ≡ sheet_answer o → r ≡ NotRead f → n ≡ refusal_no f.refusal
+pub read_refused : (o : SheetOutcome) {r : Result Counts Fault} {f : Fault} {n : ℕ} → r ≡ sheet_answer o → r ≡ Err f → n ≡ refusal_no f.refusal
     → record { number = n; place = f.place; statements = 0; halts = 0; signals = 0 } ≡ reading_of o
 unfolding reading_of sheet_answer
-read_refused (faulty f) answer is number = let same : NotRead _ ≡ NotRead f = sym is ∙ answer in cc
-read_refused (sheet w) answer is number = let z : ◌≡◌ {A = ℕ} 0 1 = cc in absurd (omega arith)
+read_refused (faulty f) answer is number = let same : Err _ ≡ Err f = sym is ∙ answer in cc
+read_refused (sheet w) answer is number = absurd (cc)
 
-pub read_counts : (o : SheetOutcome) {r : SheetRead} {c : Counts} → r ≡ sheet_answer o → r ≡ Read c
+pub read_counts : (o : SheetOutcome) {r : Result Counts Fault} {c : Counts} → r ≡ sheet_answer o → r ≡ Ok c
     → record { number = 0; place = 0; statements = c.statements; halts = c.halts; signals = c.signals } ≡ reading_of o
 unfolding reading_of sheet_answer
-read_counts (faulty f) answer is = let z : ◌≡◌ {A = ℕ} 0 1 = cc in absurd (omega arith)
-read_counts (sheet w) answer is = let same : Read _ ≡ Read (counts_of w) = sym is ∙ answer in cc
+read_counts (faulty f) answer is = absurd (cc)
+read_counts (sheet w) answer is = let same : Ok _ ≡ Ok (counts_of w) = sym is ∙ answer in cc
 
 -- a sheet's own fault
 module _ {s : List ℕ} {f : Fault} (was : Checks s (faulty f)) where
@@ -49,7 +46,7 @@ module _ {s : List ℕ} {f : Fault} (was : Checks s (faulty f)) where
   fitting_refused = record { outcome = faulty f; checks = was; answer = refl }
 
 -- an accepted sheet
-module _ {s rows statics cells : List ℕ} {c : Counts} {n : ℕ} (a : Compiled_as s c n rows statics cells) where
+module _ {s : List ℕ} {rows : List Row} {statics : List Both} {cells : List ℕ} {c : Counts} {n : ℕ} (a : Compiled_as s c n rows statics cells) where
   pub counts_are : acceptance c.statements n ≡ sheet_accepted (sheet a.read)
   unfolding sheet_accepted
   counts_are = rw (a.counts, a.count)
@@ -76,27 +73,6 @@ pub many_refused : {s : List ℕ} {f : Fault} {ask : Asked} → Checks s (faulty
     → ReactedMany s ask (record { course = with_state (refusal f) ask.state; signals = ask.signals; states = ask.states })
 unfolding verdict sheet_verdict
 many_refused {f = f} was = record { outcome = faulty f; checks = was; answer = ran_stopped refl }
-
--- the rows of a compiled sheet are run, and with its static sets its states are judged
-module _ {s rows statics cells : List ℕ} {c : Counts} {n : ℕ} (a : Compiled_as s c n rows statics cells) where
-  pub runnable : Runnable rows root
-  runnable = run_proper (accepted_proper a.accepts) a.own.holds
-
-  pub known : KnownRoot rows statics
-  known = known_proper (accepted_proper a.accepts) a.own.holds a.own.kept
-
-pub prepared_as : {s rows statics cells : List ℕ} {c : Counts} {n : ℕ} {p : Program} (a : Compiled_as s c n rows statics cells) → Prepares rows c n p
-    → PreparedAs p rows statics a.read
-prepared_as {s} a q =
-    record {
-      bytes = s;
-      accepts = a.accepts;
-      counts = q.counts ∙ a.counts;
-      count = q.count ∙ a.count;
-      holds = a.own.holds;
-      kept = a.own.kept;
-      covers = q.tested.tested _ a.read.root a.own.holds;
-    }
 
 pub many_ran : {s : List ℕ} {w : Sheet} {ask : Asked} {told : Told} → Checks s (sheet w) → AcceptedRuns w ask told → ReactedMany s ask told
 unfolding verdict sheet_verdict sheet_events sheet_fits sheet_step sheet_accepted

@@ -9,28 +9,25 @@ ghost use Rattle.verdicts.specs.Runs.{Once};
 ghost use Rattle.sheet_entries.specs.Sheets.{reading_of, Checked, Fitting, ReactedMany};
 
 use bits::Bits;
-use compiler::Compiled;
-use number::{Fault, HaltNo, Refusal};
-use sheet::SheetRead;
+use number::{HaltNo, Refusal};
+use sets::Both;
+use sheet::Row;
 use verdicts::{Answer, Course, Reaction, Reading};
 
 // Reads a sheet and goes no further.
 pub fn read(s: &[u8]) -> Reading
     ensures { result ≡ reading_of (read_sheet s.now) }
 {
-    let mut rows = [0u64; limits::MAX_STATEMENTS];
+    let mut rows = [Row::empty(); limits::MAX_STATEMENTS];
     match sheet::read_sheet(s, &mut rows) {
-        SheetRead::Refused(f) => {
-            let refusal = f.refusal;
-            Reading {
-                number: number::refusal_no(refusal),
-                place: f.place,
-                statements: 0,
-                halts: 0,
-                signals: 0,
-            }
-        }
-        SheetRead::Read(c) => Reading {
+        Err(f) => Reading {
+            number: u8::from(f.refusal),
+            place: f.place,
+            statements: 0,
+            halts: 0,
+            signals: 0,
+        },
+        Ok(c) => Reading {
             number: 0,
             place: 0,
             statements: c.statements,
@@ -44,12 +41,12 @@ pub fn read(s: &[u8]) -> Reading
 pub fn check(s: &[u8]) -> Answer
     ensures { Checked s.now result }
 {
-    let mut rows = [0u64; limits::MAX_STATEMENTS];
-    let mut statics = [0u64; limits::MAX_STATEMENTS];
+    let mut rows = [Row::empty(); limits::MAX_STATEMENTS];
+    let mut statics = [Both::empty(); limits::MAX_STATEMENTS];
     let mut cells = [0u64; limits::MAX_CELLS];
     match compiler::compile(s, &mut rows, &mut statics, &mut cells) {
-        Compiled::Refused(f) => verdicts::refusal(f),
-        Compiled::Program(c, n) => verdicts::acceptance(c.statements, n),
+        Err(f) => verdicts::refusal(f),
+        Ok((c, n)) => verdicts::acceptance(c.statements, n),
     }
 }
 
@@ -57,19 +54,17 @@ pub fn check(s: &[u8]) -> Answer
 pub fn fits(s: &[u8], state: Bits) -> Answer
     ensures { Fitting s.now (whole state) result }
 {
-    let mut rows = [0u64; limits::MAX_STATEMENTS];
-    let mut statics = [0u64; limits::MAX_STATEMENTS];
+    let mut rows = [Row::empty(); limits::MAX_STATEMENTS];
+    let mut statics = [Both::empty(); limits::MAX_STATEMENTS];
     let mut cells = [0u64; limits::MAX_CELLS];
     match compiler::compile(s, &mut rows, &mut statics, &mut cells) {
-        Compiled::Refused(f) => verdicts::refusal(f),
-        Compiled::Program(c, n) => {
+        Err(f) => verdicts::refusal(f),
+        Ok((c, n)) => {
             if rules::fits(&rows, &statics, state) {
-                return verdicts::acceptance(c.statements, n);
+                verdicts::acceptance(c.statements, n)
+            } else {
+                verdicts::refusal(Refusal::State.at(0))
             }
-            verdicts::refusal(Fault {
-                refusal: Refusal::State,
-                place: 0,
-            })
         }
     }
 }
@@ -78,10 +73,7 @@ pub fn fits(s: &[u8], state: Bits) -> Answer
 pub fn rest(state: Bits) -> bool
     ensures { result ≡ at_rest (has (whole state)) }
 {
-    if !state.member(bits::BOOT) {
-        return false;
-    }
-    rules::no_halts_from(state, HaltNo::new(0))
+    state.member(bits::BOOT) && rules::no_halts_from(state, HaltNo::new(0))
 }
 
 // The reactions of a sheet to many events, by the interpreter.
@@ -96,12 +88,12 @@ pub fn react_many(
         (record { state = whole state; events = events.now; signals = emissions.old; states = states.old })
         (record { course = result; signals = emissions.new; states = states.new }) }
 {
-    let mut rows = [0u64; limits::MAX_STATEMENTS];
-    let mut statics = [0u64; limits::MAX_STATEMENTS];
+    let mut rows = [Row::empty(); limits::MAX_STATEMENTS];
+    let mut statics = [Both::empty(); limits::MAX_STATEMENTS];
     let mut cells = [0u64; limits::MAX_CELLS];
     match compiler::compile(s, &mut rows, &mut statics, &mut cells) {
-        Compiled::Refused(f) => verdicts::with_state(verdicts::refusal(f), state),
-        Compiled::Program(c, n) => {
+        Err(f) => verdicts::with_state(verdicts::refusal(f), state),
+        Ok((c, n)) => {
             let p = interpreter::prepare(&rows, c, n);
             interpreter::react_many(p, &rows, &statics, state, events, emissions, states)
         }
@@ -112,10 +104,7 @@ pub fn react_many(
 pub fn react(s: &[u8], state: Bits, event: Bits) -> Reaction
     ensures { Once (ReactedMany s.now) (whole state) (whole event) result }
 {
-    let mut events = [0u64; bits::WORDS];
-    let mut emissions = [0u64; bits::WORDS];
-    let mut states = [0u64; bits::WORDS];
-    event.write(&mut events, 0);
-    let c = react_many(s, state, &events, &mut emissions, &mut states);
-    verdicts::reaction_of(c, Bits::read(&emissions, 0))
+    verdicts::run_once(event, |events, emissions, states| {
+        react_many(s, state, events, emissions, states)
+    })
 }

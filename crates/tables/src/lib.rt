@@ -12,16 +12,16 @@ use number::{CellNo, Refusal};
 
 // The cell whose value the table answers, the cells at its pins, and a bit for each setting of the pins: pin p weighs 2 to the p.
 #[repr(C)]
-#[derive(Clone, Copy)]
+#[derive(Clone, Copy, Debug, PartialEq, Eq)]
 pub struct Table {
     pub cell: CellNo,
     pub pins: [CellNo; Table::PINS],
     pub truth: u16,
 }
 
-// What a reorder answers: 0 with the table reordered, or ORDER with the table as it was.
+// What a reorder answers: 0 with the table reordered, or ORDER with the table as it was. It goes through the C interface, which has no `Result`.
 #[repr(C)]
-#[derive(Clone, Copy)]
+#[derive(Clone, Copy, Debug, PartialEq, Eq)]
 pub struct Reordered {
     pub number: u8,
     pub place: usize,
@@ -50,7 +50,7 @@ impl Table {
     {
         if (Table::ORDERS as u64) <= order {
             return Reordered {
-                number: number::refusal_no(Refusal::Order),
+                number: u8::from(Refusal::Order),
                 place: 0,
                 table: self,
             };
@@ -74,11 +74,8 @@ fn moved_pins(old: [CellNo; Table::PINS], order: usize) -> [CellNo; Table::PINS]
 {
     let carried = rows::carried(order);
     let mut new = old;
-    let mut q = 0;
-    while q < Table::PINS {
-        let p = carried[q] as usize;
-        new[q] = old[p];
-        q += 1;
+    for (q, p) in carried.iter().enumerate() {
+        new[q] = old[*p as usize];
     }
     new
 }
@@ -90,11 +87,8 @@ fn moved_truth(truth: u16, order: usize) -> u16
 {
     let places = rows::places(order);
     let mut moved = 0;
-    let mut b = 0;
-    while b < Table::SETTINGS {
-        let place = places[b];
-        moved += (truth >> b) % 2 << place;
-        b += 1;
+    for (b, place) in places.iter().enumerate() {
+        moved += (truth >> b) % 2 << *place;
     }
     moved
 }

@@ -1,17 +1,18 @@
 -- The laws of putting texts into a buffer, one behind the other.
-use Prim.Native.Nat.{ℕ, suc, ◌+◌, ◌-◌, ◌≤◌, ◌<◌}
+use Prim.Native.Nat.{ℕ, zero, suc, ◌+◌, ◌≤◌, ◌<◌}
 use mathlib.Core.Path.{◌≡◌, refl, sym, ap, ◌∙◌}
 use mathlib.Core.Bool.{Bool, true, false}
-use mathlib.Core.List.{List, [], ◌∷◌, ◌++◌, append_assoc}
+use mathlib.Core.List.{List, [], ◌∷◌, ◌++◌, append_assoc, append-nil}
 use native.Mathlib.Nat.{add-zero}
 use native.Mathlib.Numerals.{add-one}
 use native.Mathlib.Omega.{arith}
 use borrow.Author.Tests.{leb-true, leb-false}
 use lib.Dec.{leb}
-use lib.ListN.{length, take, drop, get_or, set, length-append}
-use lib.Seq.{sets, set_out, take-suc, take-length, length-sets}
-use Rattle.texts.specs.Puts.{Puts}
-use Rattle.texts.specs.Written.{decimal, in_hex, behind_blanks, row}
+use lib.ListN.{length, take, get_or, set, length-append}
+use lib.Seq.{sets, set_out, take-suc, take_all, length-take-le, length-sets}
+use Rattle.texts.specs.declared.Page.{Page}
+use Rattle.texts.specs.Puts.{Puts, Writes}
+use Rattle.texts.specs.Written.{decimal, in_hex, behind_blanks, row, blank}
 
 pub sets_append : (l : List ℕ) (at : ℕ) (u v : List ℕ) → sets l at (u ++ v) ≡ sets (sets l at u) (at + length u) v
 sets_append l at [] v = rw (add-zero at)
@@ -46,16 +47,25 @@ puts_more {a} {b} {at} {mid} {end} {out} {out₁} {out₂} small p q =
         let none : sets out₁ mid b ≡ out₁ = sets_out out₁ mid b (omega (arith, p.past, ap length p.laid)) in
         none ∙ p.laid ∙ sym (sets_append out at a b ∙ sets_out (sets out at a) (at + length a) b (omega arith))
 
+-- the same on a page
+pub writes_none : (p : Page) → p.at ≤ 18446744073709551615 → Writes [] p p
+writes_none p h = record { same_buffer = refl; puts = puts_none p.out.now p.at h }
+
+pub writes_more : {a b : List ℕ} {p q r : Page} → length p.out.now ≤ 18446744073709551615 → Writes a p q → Writes b q r → Writes (a ++ b) p r
+writes_more small w v = record { same_buffer = v.same_buffer ∙ w.same_buffer; puts = puts_more small w.puts v.puts }
+
+pub same_room : {text : List ℕ} {p q : Page} → Writes text p q → length q.out.now ≡ length p.out.now
+same_room {text} {p} w = ap length w.puts.laid ∙ length-sets p.out.now p.at text
+
+-- so a chain of texts needs that of its first page alone
+pub writes_then : {a b : List ℕ} {p q r : Page} → Writes a p q → (length q.out.now ≤ 18446744073709551615 → Writes b q r)
+    → length p.out.now ≤ 18446744073709551615 → Writes (a ++ b) p r
+writes_then w v small = let long = same_room w in writes_more small w (v (omega arith))
+
 -- a text that has a piece for each entry of a list
 pub record Joins (f : List ℕ → List ℕ) : Type 0 where
   pub none : f [] ≡ []
   pub more : (a b : List ℕ) → f (a ++ b) ≡ f a ++ f b
-
--- The pieces of so many entries are put: what holds in a loop over the entries.
-pub record Pieces (f : List ℕ → List ℕ) (xs : List ℕ) (at : ℕ) (out₀ : List ℕ) (i end : ℕ) (out : List ℕ) : Type 0 where
-  pub within : i ≤ length xs
-  pub long : length out ≡ length out₀
-  pub put : Puts (f (take i xs)) at end out₀ out
 
 abbrev pub itself : List ℕ → List ℕ
 itself l = l
@@ -79,35 +89,33 @@ blanks_join = record { none = refl; more = more }
     more [] b = refl
     more (x ∷ a) b = rw (more a b, append_assoc (decimal x) (behind_blanks a) (behind_blanks b))
 
-module _ (f : List ℕ → List ℕ) (j : Joins f) (xs : List ℕ) (at : ℕ) (out₀ : List ℕ) where
-  pub pieces_none : at ≤ 18446744073709551615 → Pieces f xs at out₀ 0 at out₀
-  pieces_none h = record { within = omega arith; long = refl; put = rw j.none (puts_none out₀ at h) }
+pub pieces_none : (f : List ℕ → List ℕ) → Joins f → (p : Page) → p.at ≤ 18446744073709551615 → Writes (f []) p p
+pieces_none f j p h = rw j.none (writes_none p h)
 
-  pub pieces_next : {i mid end : ℕ} {out out' : List ℕ} → length out₀ ≤ 18446744073709551615 → Pieces f xs at out₀ i mid out → i < length xs
-      → Puts (f (get_or xs i 0 ∷ [])) mid end out out' → Pieces f xs at out₀ (i + 1) end out'
-  pieces_next {i} {mid = mid} {out = out} small p h q =
-      record {
-        within = omega arith;
-        long = omega (arith, ap length q.laid, length-sets out mid (f (get_or xs i 0 ∷ [])), p.long);
-        put = rw (add-one, take-suc xs i 0 h, j.more (take i xs) (get_or xs i 0 ∷ [])) (puts_more small p.put q);
-      }
+module _ (f : List ℕ → List ℕ) (j : Joins f) (xs : List ℕ) {p q : Page} where
+  pub pieces_next : {i : ℕ} {r : Page} → length p.out.now ≤ 18446744073709551615 → Writes (f (take i xs)) p q → i < length xs
+      → Writes (f (get_or xs i 0 ∷ [])) q r → Writes (f (take (i + 1) xs)) p r
+  pieces_next {i} small w h v = rw (add-one, take-suc xs i 0 h, j.more (take i xs) (get_or xs i 0 ∷ [])) (writes_more small w v)
 
-  pub pieces_done : {i end : ℕ} {out : List ℕ} → Pieces f xs at out₀ i end out → length xs ≤ i → Puts (f xs) at end out₀ out
-  pieces_done {i} p h =
-      let all : i ≡ length xs = omega (arith, p.within) in
-      rw (all, take-length xs) at p.put
+  pub pieces_done : {i : ℕ} → Writes (f (take i xs)) p q → length xs ≤ i → Writes (f xs) p q
+  pieces_done {i} w h = rw (take_all i xs h) at w
 
--- a row of numbers: none, and one with the others behind it
-pub row_none : (ns out : List ℕ) (at : ℕ) → length ns ≡ 0 → at ≤ 18446744073709551615 → Puts (row ns) at at out out
-unfolding row
-row_none [] out at none h = puts_none out at h
-row_none (n ∷ ns) out at none h = absurd (omega arith)
+-- what stands before a number of a row
+abbrev pub sign_before : ℕ → List ℕ
+sign_before zero = []
+sign_before (suc i) = blank ∷ []
 
-pub row_more : (ns : List ℕ) {at mid end : ℕ} {out out₁ out₂ : List ℕ} → 0 < length ns → length out ≤ 18446744073709551615
-    → Puts (decimal (get_or ns 0 0)) at mid out out₁ → Puts (behind_blanks (take (length ns - 1) (drop 1 ns))) mid end out₁ out₂
-    → Puts (row ns) at end out out₂
-unfolding row
-row_more [] some small p q = absurd (omega arith)
-row_more (n ∷ ns) some small p q =
-    let count : suc (length ns) - 1 ≡ length ns = omega arith in
-    puts_more small p (rw (count, take-length ns) at q)
+pub row_more : (ns : List ℕ) (n : ℕ) → row (ns ++ (n ∷ [])) ≡ row ns ++ (sign_before (length ns) ++ decimal n)
+unfolding row behind_blanks
+row_more [] n = append-nil (decimal n)
+row_more (m ∷ ns) n = rw (blanks_join.more ns (n ∷ []), append-nil (decimal n), append_assoc (decimal m) (behind_blanks ns) (blank ∷ decimal n))
+
+pub row_next : (ns : List ℕ) {p q r s : Page} {i : ℕ} → length p.out.now ≤ 18446744073709551615 → Writes (row (take i ns)) p q → i < length ns
+    → Writes (sign_before i) q r → Writes (decimal (get_or ns i 0)) r s → Writes (row (take (i + 1) ns)) p s
+row_next ns {i = i} small w h v u =
+    let long = same_room w in
+    let count : length (take i ns) ≡ i = length-take-le i ns (omega arith) in
+    rw (add-one, take-suc ns i 0 h, row_more (take i ns) (get_or ns i 0), count) (writes_more small w (writes_more (omega arith) v u))
+
+pub row_done : (ns : List ℕ) {p q : Page} {i : ℕ} → Writes (row (take i ns)) p q → length ns ≤ i → Writes (row ns) p q
+row_done ns {i = i} w h = rw (take_all i ns h) at w

@@ -74,7 +74,7 @@ pub record NoneTaken (s : Source) (bytes text : List ℕ) (s' : Source) (line' :
   pub kept : s.ended ≡ false → Kept (lines_from text (at_hand s bytes)).left s'.held line'
 
 abbrev pub Taken : Source → List ℕ → List ℕ → Next → List ℕ → Found → Type 0
-Taken s bytes text r line' Line = LineTaken s bytes text r.len r.source line'
+Taken s bytes text r line' (Line len) = LineTaken s bytes text len r.source line'
 Taken s bytes text r line' More = NoneTaken s bytes text r.source line'
 Taken s bytes text r line' End = NoneTaken s bytes text r.source line'
 
@@ -115,14 +115,14 @@ module _ (s : Source) (bytes : List ℕ) where
   past_end n is = used s bytes (length before) n ∙ rw (all_before u is) (drop-length u)
 
   -- with each line less is at hand
-  fewer_by : (a b c : Bool) (held room : ℕ) → held ≡ min (s.held + length before) 18446744073709551615 → has_newline u ≡ a → eqb held 0 ≡ c
-      → (found a b c s (place_in s bytes) held room).found ≡ Line → remaining (found a b c s (place_in s bytes) held room).source bytes < remaining s bytes
+  fewer_by : (a b c : Bool) (held room n : ℕ) → held ≡ min (s.held + length before) 18446744073709551615 → has_newline u ≡ a → eqb held 0 ≡ c
+      → (found a b c s (place_in s bytes) held room).found ≡ Line n → remaining (found a b c s (place_in s bytes) held room).source bytes < remaining s bytes
   unfolding found
-  fewer_by true b c held room past is none line =
+  fewer_by true b c held room n past is none line =
       rw (past_newline, length-drop (suc (length before)) u) (omega (arith, short_of_newline u is))
-  fewer_by false false c held room past is none line = let z : ◌≡◌ {A = ℕ} 0 1 = cc in absurd (omega arith)
-  fewer_by false true true held room past is none line = let z : ◌≡◌ {A = ℕ} 0 1 = cc in absurd (omega arith)
-  fewer_by false true false held room past is some line =
+  fewer_by false false c held room n past is none line = let z : ◌≡◌ {A = ℕ} 0 1 = cc in absurd (omega arith)
+  fewer_by false true true held room n past is none line = let z : ◌≡◌ {A = ℕ} 0 1 = cc in absurd (omega arith)
+  fewer_by false true false held room n past is some line =
       let other : held ≡ 0 → ⊥ = eqb-false held 0 some in
       rw (past_end 0 is) (omega (arith, ap length (all_before u is)))
 
@@ -182,7 +182,7 @@ module _ {s : Source} {bytes : List ℕ} {r : Next} {line line' : List ℕ} (n :
   taken text small k =
       rw n.answer (taken_by s bytes text small k n.kept (has_newline (at_hand s bytes)) s.ended (eqb n.held 0) refl refl refl)
 
-  pub fewer : r.found ≡ Line → remaining r.source bytes < remaining s bytes
+  pub fewer : {len : ℕ} → r.found ≡ Line len → remaining r.source bytes < remaining s bytes
   fewer is =
       let line = sym (ap (λ (x : Next). x.found) n.answer) ∙ is in
-      rw n.answer (fewer_by s bytes (has_newline (at_hand s bytes)) s.ended (eqb n.held 0) n.held _ n.kept.past refl refl line)
+      rw n.answer (fewer_by s bytes (has_newline (at_hand s bytes)) s.ended (eqb n.held 0) n.held _ _ n.kept.past refl refl line)

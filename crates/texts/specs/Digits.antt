@@ -1,9 +1,7 @@
 -- Digits as they are read: numbers in a base.
-use Rattle.std.specs.Prelude.{ℕ, ◌+◌, ◌*◌, ◌-◌, min, ◌≡◌, true, false, cond, List, [], ◌∷◌, leb, ltb, length}
+use Rattle.std.specs.Prelude.{ℕ, ◌+◌, ◌*◌, ◌-◌, min, ◌≡◌, cond, List, [], ◌∷◌, leb, ltb, length, Option, Some, None}
+use Rattle.bits.specs.declared.Bits.{Bits}
 use Rattle.bits.specs.Bits.{words, whole}
-use Rattle.texts.specs.declared.SetRead.{SetRead}
-use Rattle.texts.specs.declared.Value.{Value}
-use Rattle.texts.specs.declared.Value.TheVariants.{Is, Bad}
 
 -- what a digit is worth, "of either case"; 16 for any other byte
 unfoldable pub digit_of : ℕ → ℕ
@@ -17,19 +15,19 @@ unfoldable pub with_digit : ℕ → ℕ → ℕ → ℕ
 with_digit base v d = min (v * base + d) 18446744073709551615
 
 -- v with the digits of a text behind it, leading zeros read
-unfoldable pub value_from : ℕ → ℕ → List ℕ → Value
-value_from base v [] = Is v
-value_from base v (b ∷ bs) = cond (ltb (digit_of b) base) (value_from base (with_digit base v (digit_of b)) bs) Bad
+unfoldable pub value_from : ℕ → ℕ → List ℕ → Option ℕ
+value_from base v [] = Some v
+value_from base v (b ∷ bs) = cond (ltb (digit_of b) base) (value_from base (with_digit base v (digit_of b)) bs) None
 
 -- one digit up to so many: "an event line 1 to 16", "and neither has anything else"
-unfoldable pub value_of : ℕ → ℕ → List ℕ → Value
-value_of base most text = cond (ltb 0 (length text)) (cond (leb (length text) most) (value_from base 0 text) Bad) Bad
+unfoldable pub value_of : ℕ → ℕ → List ℕ → Option ℕ
+value_of base most text = cond (ltb 0 (length text)) (cond (leb (length text) most) (value_from base 0 text) None) None
 
 -- the digits of a set: 16 a word
 abbrev pub set_digits : ℕ
 set_digits = 16 * words
 
 -- a set in hex: k is in it where bit k of the number is 1
-pub data SetIs : Value → SetRead → Type 0 where
-  a_set : {n : ℕ} {r : SetRead} → r.good ≡ true → whole r.set ≡ n → SetIs (Is n) r
-  no_set : {r : SetRead} → r.good ≡ false → whole r.set ≡ 0 → SetIs Bad r
+pub data SetIs : Option ℕ → Option Bits → Type 0 where
+  a_set : {n : ℕ} {b : Bits} → whole b ≡ n → SetIs (Some n) (Some b)
+  no_set : SetIs None None

@@ -1,7 +1,8 @@
 -- How lines are taken out of the bytes that reads bring.
-use Rattle.std.specs.Prelude.{ℕ, ◌+◌, ◌≤◌, min, ◌≡◌, Bool, true, false, cond, List, [], ◌∷◌, eqb, ltb, length, take, drop}
+use Rattle.std.specs.Prelude.{ℕ, ◌+◌, min, ◌≡◌, Bool, true, false, cond, List, [], ◌∷◌, eqb, length, take, drop, ⊤, Option, unwrap_or, is_some}
 use Rattle.io.specs.Counts.{IsPrefixLen}
 use Rattle.texts.specs.declared.Source.{Source}
+use Rattle.texts.specs.declared.Found.{Found}
 use Rattle.texts.specs.declared.Found.TheVariants.{Line, More, End}
 use Rattle.texts.specs.declared.Next.{Next}
 use Rattle.texts.specs.Written.{newline}
@@ -35,10 +36,10 @@ onward s from held = record { from = from; end = s.end; held = held; ended = s.e
 -- none another read is wanted; but where no read brings more "the last line may lack its newline", and where nothing is left there is no line. `from` is the
 -- place of the newline or the end, and `held` the length of the line so far.
 unfoldable pub found : Bool → Bool → Bool → Source → ℕ → ℕ → ℕ → Next
-found true ended none s from held room = record { found = Line; len = min held room; source = onward s (from + 1) 0 }
-found false false none s from held room = record { found = More; len = 0; source = onward s from held }
-found false true true s from held room = record { found = End; len = 0; source = onward s from 0 }
-found false true false s from held room = record { found = Line; len = min held room; source = onward s from 0 }
+found true ended none s from held room = record { found = Line (min held room); source = onward s (from + 1) 0 }
+found false false none s from held room = record { found = More; source = onward s from held }
+found false true true s from held room = record { found = End; source = onward s from 0 }
+found false true false s from held room = record { found = Line (min held room); source = onward s from 0 }
 
 -- The next line was looked for: the bytes up to the newline stand behind those of the line so far, as far as there is room.
 pub record NextLine (s : Source) (bytes : List ℕ) (r : Next) (line line' : List ℕ) : Type 0 where
@@ -51,11 +52,16 @@ pub record Refilled (s r : Source) (bytes : List ℕ) : Type 0 where
   pub counted : IsPrefixLen r.end bytes
   pub answer : r ≡ record { from = 0; end = r.end; held = s.held; ended = eqb r.end 0 }
 
--- where the first newline stands from a place on, or the end
-pub record NewlineAt (bytes : List ℕ) (from r : ℕ) : Type 0 where
-  pub within : r ≤ length bytes
-  pub place : r ≡ from + length (before_newline (drop from bytes))
-  pub there : has_newline (drop from bytes) ≡ ltb r (length bytes)
+-- where the first newline stands, or none
+pub record NewlineIn (bytes : List ℕ) (r : Option ℕ) : Type 0 where
+  pub place : unwrap_or r (length bytes) ≡ length (before_newline bytes)
+  pub there : is_some r ≡ has_newline bytes
+
+-- so much of a line is in the buffer
+abbrev pub IsLine : Found → List ℕ → Type 0
+IsLine (Line n) line = IsPrefixLen n line
+IsLine More line = ⊤
+IsLine End line = ⊤
 
 -- What is kept of a line so far: its first bytes, as many as have room. `begun` is the buffer when the line began.
 pub record Kept (text : List ℕ) (held : ℕ) (line : List ℕ) : Type 0 where

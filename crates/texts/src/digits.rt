@@ -1,46 +1,37 @@
 // Digits that are read: bytes in hex, and numbers in hex and decimal.
-ghost use Rattle.std.specs.Prelude.{◌/◌, ◌≤◌, ◌<◌, ◌≡◌, length};
+ghost use Rattle.std.specs.Prelude.{◌/◌, ◌≤◌, ◌≡◌, length, IfSome};
 ghost use Rattle.io.specs.Counts.{IsPrefixLen};
-ghost use Rattle.texts.specs.Digits.{digit_of, with_digit, value_of, set_digits, SetIs};
-ghost use Rattle.texts.specs.Bytes.{malformed, byte_of, Paired, hex_of, Unhexed};
+ghost use Rattle.texts.specs.Digits.{digit_of, value_of, set_digits, SetIs};
+ghost use Rattle.texts.specs.Bytes.{byte_of, Paired, Unhexed};
 
-use crate::{Hex, SetRead, Value};
 use bits::Bits;
 
-fn not_hex() -> Hex
-    ensures { result ≡ hex_of malformed }
-{
-    Hex {
-        good: false,
-        len: 0,
-    }
-}
-
-// A hex digit of either case, or 16.
+// What a byte is worth as a digit, of either case. A byte that is none is worth 16, so that the one test of a digit against its base refuses it too; what
+// `value_of` promises at any base rests on that number.
+#[tactic(auto, unfolding(crate::specs::Digits::digit_of))]
 fn digit(b: u8) -> u8
     ensures { (result ≡ digit_of b) × (result ≤ 16) }
 {
     match b {
-        48..=57 => b - 48,
-        65..=70 => b - 55,
-        97..=102 => b - 87,
+        b'0'..=b'9' => b - b'0',
+        b'A'..=b'F' => b - b'A' + 10,
+        b'a'..=b'f' => b - b'a' + 10,
         _ => 16,
     }
 }
 
-// The byte of two digits, or 256.
-fn byte_of(high: u8, low: u8) -> u16
-    ensures { (result ≡ byte_of high low) × (result ≤ 256) }
+// The byte of two digits.
+#[tactic(auto, unfolding(crate::specs::Bytes::byte_of))]
+fn byte_of(high: u8, low: u8) -> Option<u8>
+    ensures { result ≡ byte_of high low }
 {
     let h = digit(high);
     let l = digit(low);
-    if h >= 16 {
-        return 256;
+    if h < 16 && l < 16 {
+        Some(16 * h + l)
+    } else {
+        None
     }
-    if l >= 16 {
-        return 256;
-    }
-    16 * (h as u16) + l as u16
 }
 
 // The bytes of a text, up to the first two digits that are none, and how many they are.
@@ -49,98 +40,62 @@ fn pairs(text: &[u8], out: &mut [u8]) -> usize
     ensures { Paired text.now result out.old out.new }
 {
     let count = text.len() / 2;
-    let mut i = 0;
-    while i < count {
-        let b = byte_of(text[2 * i], text[2 * i + 1]);
-        if b >= 256 {
+    for i in 0..count {
+        let Some(b) = byte_of(text[2 * i], text[2 * i + 1]) else {
             return i;
-        }
-        out[i] = b as u8;
-        i += 1;
+        };
+        out[i] = b;
     }
-    i
+    count
 }
 
-// An even count of hex digits as bytes, where there is room for them.
-pub fn hex_bytes(text: &[u8], out: &mut [u8]) -> Hex
-    ensures prefix_len { IsPrefixLen result.len out.new }
+// An even count of hex digits as bytes, where there is room for them: how many bytes.
+pub fn hex_bytes(text: &[u8], out: &mut [u8]) -> Option<usize>
+    ensures prefix_len { IfSome result (λ n. IsPrefixLen n out.new) }
     ensures unhexed { Unhexed text.now result out.old out.new }
 {
     if out.len() < text.len() / 2 {
-        return not_hex();
+        return None;
     }
     let n = pairs(text, out);
-    if 2 * n != text.len() {
-        return not_hex();
-    }
-    Hex { good: true, len: n }
+    if 2 * n == text.len() { Some(n) } else { None }
 }
 
-fn wide(d: u8) -> u64
-    ensures { result ≡ d }
-{
-    d as u64
-}
-
-// A digit more, or the largest number where there is none so large.
-fn with_digit(value: u64, base: u64, d: u64) -> u64
-    requires { 0 < base }
-    ensures { result ≡ with_digit base value d }
-{
-    if value > (u64::MAX - d) / base {
-        return u64::MAX;
-    }
-    value * base + d
-}
-
-// Digits of a base, at least one and at most so many.
-pub fn value_of(text: &[u8], base: u64, most: usize) -> Value
+// Digits of a base, at least one and at most so many. A number that no word holds is read as the largest.
+pub fn value_of(text: &[u8], base: u64, most: usize) -> Option<u64>
     ensures { result ≡ value_of base most text.now }
 {
-    if text.len() == 0 {
-        return Value::Bad;
-    }
-    if text.len() > most {
-        return Value::Bad;
+    if text.is_empty() || most < text.len() {
+        return None;
     }
     let mut value: u64 = 0;
-    let mut i = 0;
-    while i < text.len() {
-        let d = wide(digit(text[i]));
+    for b in text {
+        let d = u64::from(digit(*b));
         if d >= base {
-            return Value::Bad;
+            return None;
         }
-        value = with_digit(value, base, d);
-        i += 1;
+        value = value.saturating_mul(base).saturating_add(d);
     }
-    Value::Is(value)
+    Some(value)
 }
 
 // A word: 1 to 16 hex digits.
-pub fn hex_value(text: &[u8]) -> Value
+pub fn hex_value(text: &[u8]) -> Option<u64>
     ensures { result ≡ value_of 16 16 text.now }
 {
     value_of(text, 16, 16)
 }
 
 // A state or an event: 1 to 16 hex digits a word.
-pub fn set_value(text: &[u8]) -> SetRead
+pub fn set_value(text: &[u8]) -> Option<Bits>
     ensures { SetIs (value_of 16 set_digits text.now) result }
 {
-    match hex_value(text) {
-        Value::Is(n) => SetRead {
-            good: true,
-            set: Bits::of_word(n),
-        },
-        Value::Bad => SetRead {
-            good: false,
-            set: Bits::empty(),
-        },
-    }
+    let n = hex_value(text)?;
+    Some(Bits::of_word(n))
 }
 
 // A length: 1 to 20 decimal digits.
-pub fn decimal_value(text: &[u8]) -> Value
+pub fn decimal_value(text: &[u8]) -> Option<u64>
     ensures { result ≡ value_of 10 20 text.now }
 {
     value_of(text, 10, 20)

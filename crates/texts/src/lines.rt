@@ -1,12 +1,13 @@
 // Lines, taken out of the bytes that reads bring. A line depends on these bytes alone, and not on where a read ends. Which bytes standard input brings no
 // contract says; that is all that is left open here.
-ghost use Rattle.std.specs.Prelude.{◌≡◌, true, false, ◌≤◌, ◌<◌, min, eqb, length, take};
+ghost use Rattle.std.specs.Prelude.{◌≡◌, true, false, ◌<◌, eqb, length, take};
 ghost use Rattle.std.specs.Io.KnownBytes.{Consumes};
 ghost use Rattle.io.specs.Counts.{IsPrefixLen};
-ghost use Rattle.texts.specs.Reads.{brought, onward, NewlineAt, NextLine, Refilled};
+ghost use Rattle.texts.specs.Puts.{Puts};
+ghost use Rattle.texts.specs.Reads.{brought, IsLine, NewlineIn, NextLine, Refilled};
 ghost use Rattle.texts.specs.Reads as Reads;
 
-use crate::{Found, Next, Source};
+use crate::{Found, Next, Page, Source};
 use std::io::Read;
 
 // Before the first read.
@@ -38,10 +39,7 @@ fn read_once<R: Read>(input: &mut R, bytes: &mut [u8]) -> usize
     ensures prefix_len { IsPrefixLen result bytes.new }
     ensures consumes { Consumes (R.remaining input.old) (R.remaining input.new) (take result bytes.new) }
 {
-    match input.read(bytes) {
-        Ok(n) => n,
-        Err(_) => 0,
-    }
+    input.read(bytes).unwrap_or(0)
 }
 
 // One read. The bytes that were at hand are used up. The input ends where a read brings none, or fails.
@@ -58,66 +56,72 @@ pub fn refill<R: Read>(input: &mut R, bytes: &mut [u8], s: Source) -> Source
     }
 }
 
-fn least(a: usize, b: usize) -> usize
-    ensures { result ≡ min a b }
+fn newline_in(bytes: &[u8]) -> Option<usize>
+    ensures { NewlineIn bytes.now result }
 {
-    if a < b { a } else { b }
+    bytes.iter().position(|b| *b == b'\n')
 }
 
-fn newline_from(bytes: &[u8], from: usize) -> usize
-    requires { from ≤ length bytes.now }
-    ensures { NewlineAt bytes.now from result }
+// Puts bytes behind those of the line so far.
+fn keep(line: &mut [u8], held: usize, bytes: &[u8]) -> usize
+    ensures { Puts bytes.now held result line.old line.new }
 {
-    let mut i = from;
-    while i < bytes.len() {
-        if bytes[i] == b'\n' {
-            return i;
-        }
-        i += 1;
-    }
-    i
-}
-
-fn next(found: Found, len: usize, s: Source, from: usize, held: usize) -> Next
-    ensures { result ≡ record { found = found; len = len; source = onward s from held } }
-{
-    Next {
-        found,
-        len,
-        source: Source {
-            from,
-            end: s.end,
-            held,
-            ended: s.ended,
-        },
-    }
+    let mut page = Page {
+        out: line,
+        at: held,
+    };
+    page.bytes(bytes);
+    page.at
 }
 
 // Whether there is a line, and whether to go on.
+#[tactic(auto, unfolding(crate::specs::Reads::found))]
 fn found(s: Source, newline: bool, at: usize, held: usize, room: usize) -> Next
     requires { newline ≡ true → at < 18446744073709551615 }
     ensures { result ≡ Reads.found newline s.ended (eqb held 0) s at held room }
 {
+    let line = Found::Line(held.min(room));
     if newline {
-        return next(Found::Line, least(held, room), s, at + 1, 0);
+        return Next {
+            found: line,
+            source: Source {
+                from: at + 1,
+                held: 0,
+                ..s
+            },
+        };
     }
-    if s.ended && held == 0 {
-        return next(Found::End, 0, s, at, 0);
+    if !s.ended {
+        return Next {
+            found: Found::More,
+            source: Source {
+                from: at,
+                held,
+                ..s
+            },
+        };
     }
-    if s.ended {
-        return next(Found::Line, least(held, room), s, at, 0);
+    let found = if held == 0 { Found::End } else { line };
+    Next {
+        found,
+        source: Source {
+            from: at,
+            held: 0,
+            ..s
+        },
     }
-    next(Found::More, 0, s, at, held)
 }
 
 // Looks for the next line. The bytes up to its newline are kept in `line`, as far as there is room.
 pub fn next_line(s: Source, bytes: &[u8], line: &mut [u8]) -> Next
-    ensures prefix_len { IsPrefixLen result.len line.new }
+    ensures prefix_len { IsLine result.found line.new }
     ensures next_line { NextLine s bytes.now result line.old line.new }
 {
-    let end = crate::within(s.end, bytes);
-    let from = least(s.from, end);
-    let stop = newline_from(&bytes[..end], from);
-    let held = crate::put_bytes(line, s.held, &bytes[from..stop]);
-    found(s, stop < end, stop, held, line.len())
+    let end = s.end.min(bytes.len());
+    let from = s.from.min(end);
+    let rest = &bytes[from..end];
+    let newline = newline_in(rest);
+    let len = newline.unwrap_or(rest.len());
+    let held = keep(line, s.held, &rest[..len]);
+    found(s, newline.is_some(), from + len, held, line.len())
 }

@@ -3,7 +3,6 @@ use Prim.Native.Nat.{ℕ, ◌+◌, ◌*◌, ◌≤◌}
 use mathlib.Core.Path.{◌≡◌, refl, sym, ap, ◌∙◌}
 use mathlib.Core.Bool.{Bool, true, false}
 use mathlib.Core.List.{List, [], ◌∷◌, ◌++◌, append_assoc, append-nil}
-use mathlib.Core.Logic.{◌⊎◌, ⊎_elim}
 use native.Mathlib.Omega.{arith}
 use lib.ListN.{length, take, length-append}
 use lib.Seq.{take-length}
@@ -13,17 +12,18 @@ use Rattle.io.specs.Counts.{IsPrefixLen}
 use Rattle.io.proofs.Counting.{prefix_len_of_le}
 use Rattle.texts.specs.declared.Source.{Source}
 use Rattle.texts.specs.declared.Found.TheVariants.{Line, More, End}
+use Rattle.texts.specs.declared.Found.{Found}
 use Rattle.texts.specs.declared.Next.{Next}
 use Rattle.texts.specs.Written.{behind_blanks, row, newline}
-use Rattle.texts.specs.Puts.{Puts}
+use Rattle.texts.specs.declared.Page.{Page}
+use Rattle.texts.specs.Puts.{Writes}
 use Rattle.texts.specs.Lines.{lines_from, lines_in}
 use Rattle.texts.specs.Reads.{at_hand, NextLine, Refilled, Kept}
-use Rattle.texts.proofs.Putting.{puts_none, puts_more}
+use Rattle.texts.proofs.Putting.{writes_none, writes_more, same_room}
 use Rattle.texts.proofs.Numerals.{decimal_short, hex_short}
 use Rattle.texts.proofs.Taking.{LineTaken, NoneTaken, Taken, nothing_kept, remaining, few_remaining, same_ended, fewer, taken}
-use Rattle.tracing.specs.declared.Awaited.TheVariants.{Sheet}
 use Rattle.tracing.specs.declared.Trace.{Trace}
-use Rattle.tracing.specs.declared.After.{After}
+use Rattle.tracing.specs.declared.Trace.TheVariants.{Sheet}
 use Rattle.tracing.specs.declared.Fed.{Fed}
 use Rattle.tracing.specs.Sizes.{line_room, text_room}
 use Rattle.tracing.specs.Texts.{word_line, ok_word, no_word, rest_text, instant_text}
@@ -31,13 +31,15 @@ use Rattle.tracing.specs.Steps.{State, first, counted, outputs_in, Steps}
 use Rattle.tracing.specs.Steps.{sheet_malformed, sheet_refused, sheet_accepted, event_malformed, event_refused, instant, after_stop}
 use Rattle.tracing.specs.Stands.{Columns, Stands, for_first, Sound, step_of, Leads, Does}
 use Rattle.tracing.specs.Output.{dashes, begins, Turn, a_step, anew, Printed, no_line, next_line, Answered}
-use Rattle.tracing.specs.Feeds.{turn_of, goes_on, Buffers, Feeds, ReadAnswered}
+use Rattle.tracing.specs.Feeds.{turn_of, Buffers, Feeds, ReadAnswered}
 use Rattle.tracing.proofs.Cut.{cut_turn}
+use Rattle.sets.specs.declared.Both.{Both}
+use Rattle.sheet.specs.declared.Row.{Row}
 
 -- a line's answer
-module _ {many : Bool} {t : Trace} {line : List ℕ} {at : ℕ} {r : After} {rows rows' statics statics' out out' : List ℕ} where
-  pub turned_step : begins many line ≡ false → Does (step_of line) t at r rows rows' statics statics' out out'
-      → Does (turn_of many line) t at r rows rows' statics statics' out out'
+module _ {many : Bool} {t : Trace} {line : List ℕ} {r : Trace} {rows rows' : List Row} {statics statics' : List Both} {p p' : Page} where
+  pub turned_step : begins many line ≡ false → Does (step_of line) t r rows rows' statics statics' p p'
+      → Does (turn_of many line) t r rows rows' statics statics' p p'
   turned_step other did =
       record {
         from =
@@ -46,10 +48,10 @@ module _ {many : Bool} {t : Trace} {line : List ℕ} {at : ℕ} {r : After} {row
             record { next = d.next; text = d.text; moves = a_step other d.moves; stands = d.stands; written = d.written };
       }
 
-  pub turned_anew : begins many line ≡ true → r.trace.awaited ≡ Sheet → Puts (dashes ++ (newline ∷ [])) at r.end out out'
-      → Does (turn_of many line) t at r rows rows' statics statics' out out'
-  turned_anew is awaits p =
-      record { from = λ x stands. record { next = first; text = _; moves = anew is; stands = for_first awaits; written = p } }
+  pub turned_anew : begins many line ≡ true → r ≡ Sheet → Writes (dashes ++ (newline ∷ [])) p p'
+      → Does (turn_of many line) t r rows rows' statics statics' p p'
+  turned_anew is awaits w =
+      record { from = λ x stands. record { next = first; text = _; moves = anew is; stands = rw awaits for_first; written = w } }
 
 -- any answer has room in 64 bytes
 rest_short : (b : Bool) → length (rest_text b) ≤ 3
@@ -78,9 +80,9 @@ turn_short : {many : Bool} {t t' : State} {line text : List ℕ} → Turn many t
 turn_short (a_step other did) = step_short did
 turn_short (anew is) = omega arith
 
-pub turned_short : {many : Bool} {x : State} {line : List ℕ} {at : ℕ} {r : After} {rows' statics' out out' : List ℕ}
-    → Leads (turn_of many line) x at r rows' statics' out out' → r.end ≤ at + text_room
-turned_short did = omega (arith, did.written.past, turn_short did.moves)
+pub turned_short : {many : Bool} {x : State} {line : List ℕ} {r : Trace} {rows' : List Row} {statics' : List Both} {p p' : Page}
+    → Leads (turn_of many line) x r rows' statics' p p' → p'.at ≤ p.at + text_room
+turned_short did = omega (arith, did.written.puts.past, turn_short did.moves)
 
 -- the texts of some lines, and of those behind them
 pub printed_more : {many : Bool} {t t₁ t₂ : State} {a b : List (List ℕ)} {x y : List ℕ} → Printed many t a t₁ x → Printed many t₁ b t₂ y
@@ -89,24 +91,24 @@ printed_more no_line q = q
 printed_more (next_line {text = text} {rest = rest} turn p) q = rw (append_assoc text rest _) (next_line turn (printed_more p q))
 
 -- What holds after some lines: the text of these is there, and the others are those of the bytes that are still at hand.
-pub record Feeding (many : Bool) (x : State) (s₀ : Source) (bytes text out₀ : List ℕ) (t : Trace) (s : Source) (len : ℕ)
-    (line rows statics out : List ℕ)
+pub record Feeding (many : Bool) (x : State) (s₀ : Source) (bytes text : List ℕ) (p₀ : Page) (now : Fed)
+    (line : List ℕ) (rows : List Row) (statics : List Both) (p : Page)
     : Type 0 where
   pub done : List (List ℕ)
   pub output : List ℕ
   pub current : List ℕ
   pub reached : State
   pub printed : Printed many x done reached output
-  pub stands : Stands t rows statics reached
-  pub split : lines_in s₀.ended text (at_hand s₀ bytes) ≡ done ++ lines_in s.ended current (at_hand s bytes)
-  pub left : s₀.ended ≡ false → (lines_from text (at_hand s₀ bytes)).left ≡ (lines_from current (at_hand s bytes)).left
-  pub kept : Kept current s.held line
-  pub written : Puts output 0 len out₀ out
+  pub stands : Stands now.trace rows statics reached
+  pub split : lines_in s₀.ended text (at_hand s₀ bytes) ≡ done ++ lines_in now.source.ended current (at_hand now.source bytes)
+  pub left : s₀.ended ≡ false → (lines_from text (at_hand s₀ bytes)).left ≡ (lines_from current (at_hand now.source bytes)).left
+  pub kept : Kept current now.source.held line
+  pub written : Writes output p₀ p
 
-none_fed : {many : Bool} {x : State} {t : Trace} {s : Source} {bytes : List ℕ} (text rows statics out : List ℕ) {line : List ℕ}
-    → Stands t rows statics x
-    → Kept text s.held line → Feeding many x s bytes text out t s 0 line rows statics out
-none_fed text rows statics out stands k =
+none_fed : {many : Bool} {x : State} {now : Fed} {bytes : List ℕ} (text : List ℕ) (rows : List Row) (statics : List Both) (p : Page) {line : List ℕ}
+    → p.at ≤ 18446744073709551615 → Stands now.trace rows statics x
+    → Kept text now.source.held line → Feeding many x now.source bytes text p now line rows statics p
+none_fed text rows statics p small stands k =
     record {
       done = [];
       output = [];
@@ -117,18 +119,18 @@ none_fed text rows statics out stands k =
       split = refl;
       left = λ _. refl;
       kept = k;
-      written = puts_none out 0 (omega arith);
+      written = writes_none p small;
     }
 
-module _ {many : Bool} {x : State} {s₀ : Source} {bytes text out₀ : List ℕ} {t : Trace} {s : Source} {len : ℕ}
-    {line rows statics out : List ℕ}
-    (f : Feeding many x s₀ bytes text out₀ t s len line rows statics out) (same : s.ended ≡ s₀.ended) where
+module _ {many : Bool} {x : State} {s₀ : Source} {bytes text : List ℕ} {p₀ : Page} {now : Fed}
+    {line : List ℕ} {rows : List Row} {statics : List Both} {p : Page}
+    (f : Feeding many x s₀ bytes text p₀ now line rows statics p) (same : now.source.ended ≡ s₀.ended) where
   -- a line more
-  line_fed : {n : ℕ} {s' : Source} {r : After} {line' rows' statics' out' : List ℕ} → length out₀ ≤ 18446744073709551615
+  line_fed : {n : ℕ} {s' : Source} {t' : Trace} {line' : List ℕ} {rows' : List Row} {statics' : List Both} {p' : Page} → length p₀.out.now ≤ 18446744073709551615
       → line_room ≤ length line'
-      → s'.ended ≡ s.ended → LineTaken s bytes f.current n s' line'
-      → Does (turn_of many (take n line')) t len r rows rows' statics statics' out out'
-      → Feeding many x s₀ bytes text out₀ r.trace s' r.end line' rows' statics' out'
+      → s'.ended ≡ now.source.ended → LineTaken now.source bytes f.current n s' line'
+      → Does (turn_of many (take n line')) now.trace t' rows rows' statics statics' p p'
+      → Feeding many x s₀ bytes text p₀ (record { trace = t'; source = s' }) line' rows' statics' p'
   line_fed {s' = s'} {line' = line'} small enough ended taken turned =
       let did = turned.from f.reached f.stands in
       let turn = cut_turn (length line') taken.whole enough (rw taken.in_buffer at did.moves) in
@@ -145,55 +147,55 @@ module _ {many : Bool} {x : State} {s₀ : Source} {bytes text out₀ : List ℕ
             ∙ sym (append_assoc f.done (taken.whole ∷ []) (lines_in s'.ended [] (at_hand s' bytes)));
         left = λ open_ended. f.left open_ended ∙ taken.left (same ∙ open_ended);
         kept = rw taken.none_held (nothing_kept line');
-        written = puts_more small f.written did.written;
+        written = writes_more small f.written did.written;
       }
 
   -- no line more
-  all_fed : {s' : Source} {r : Fed} {line' : List ℕ} → NoneTaken s bytes f.current s' line'
-      → r ≡ record { trace = t; source = s'; len = len; more = goes_on many s'.ended t.awaited } → s'.ended ≡ s.ended
-      → Feeds many x s₀ bytes text r rows statics line' out₀ out
-  all_fed none is ended =
-      rw is
-      (record {
+  all_fed : {s' : Source} {line' : List ℕ} → NoneTaken now.source bytes f.current s' line' → s'.ended ≡ now.source.ended
+      → Feeds many x s₀ bytes text (record { trace = now.trace; source = s' }) rows statics line' p₀ p
+  all_fed none ended =
+      record {
         next = f.reached;
         output = f.output;
         printed = rw (f.split, none.none, append-nil f.done) f.printed;
         stands = f.stands;
         written = f.written;
         kept = λ more. rw (f.left more) (none.kept (same ∙ more));
-        onward = rw (ended, same);
-      })
+        same_end = ended ∙ same;
+      }
 
 -- What holds when the loop over the lines is reached: the buffers keep their lengths, what is still at hand has room, and the trace
 -- stands for some state.
-pub record Rounds (many : Bool) (t₀ : Trace) (s₀ : Source) (bytes line₀ rows₀ statics₀ out₀ : List ℕ) (t : Trace) (s : Source) (len : ℕ)
-    (line rows statics out : List ℕ) : Type 0 where
+pub record Rounds (many : Bool) (from : Fed) (bytes line₀ : List ℕ) (rows₀ : List Row) (statics₀ : List Both) (p₀ : Page) (now : Fed)
+    (line : List ℕ) (rows : List Row) (statics : List Both) (p : Page) : Type 0 where
   pub long_line : length line ≡ length line₀
   pub long_rows : length rows ≡ length rows₀
   pub long_statics : length statics ≡ length statics₀
-  pub long_out : length out ≡ length out₀
-  pub same_end : s.ended ≡ s₀.ended
-  pub few : len + text_room * remaining s bytes ≤ text_room * remaining s₀ bytes
-  pub sound : Sound t rows statics
-  pub fed : (x : State) (text : List ℕ) → Stands t₀ rows₀ statics₀ x → Kept text s₀.held line₀
-      → Feeding many x s₀ bytes text out₀ t s len line rows statics out
+  pub long_out : length p.out.now ≡ length p₀.out.now
+  pub same_buffer : p.out.ghost_name ≡ p₀.out.ghost_name
+  pub same_end : now.source.ended ≡ from.source.ended
+  pub few : p.at + text_room * remaining now.source bytes ≤ p₀.at + text_room * remaining from.source bytes
+  pub sound : Sound now.trace rows statics
+  pub fed : (x : State) (text : List ℕ) → Stands from.trace rows₀ statics₀ x → Kept text from.source.held line₀
+      → Feeding many x from.source bytes text p₀ now line rows statics p
 
-pub no_round : (many : Bool) (t : Trace) (s : Source) (bytes line rows statics out : List ℕ) → Sound t rows statics
-    → Rounds many t s bytes line rows statics out t s 0 line rows statics out
-no_round many t s bytes line rows statics out sound =
+pub no_round : (many : Bool) (from : Fed) (bytes line : List ℕ) (rows : List Row) (statics : List Both) (p : Page) → p.at ≤ 18446744073709551615
+    → Sound from.trace rows statics → Rounds many from bytes line rows statics p from line rows statics p
+no_round many from bytes line rows statics p small sound =
     record {
       long_line = refl;
       long_rows = refl;
       long_statics = refl;
       long_out = refl;
+      same_buffer = refl;
       same_end = refl;
       few = omega arith;
       sound = sound;
-      fed = λ x text stands k. none_fed text rows statics out stands k;
+      fed = λ x text stands k. none_fed text rows statics p small stands k;
     }
 
-module _ {many : Bool} {t₀ : Trace} {s₀ : Source} {bytes line₀ rows₀ statics₀ out₀ : List ℕ} {t : Trace} {s : Source} {len : ℕ}
-    {line rows statics out : List ℕ} (r : Rounds many t₀ s₀ bytes line₀ rows₀ statics₀ out₀ t s len line rows statics out) where
+module _ {many : Bool} {from : Fed} {bytes line₀ : List ℕ} {rows₀ : List Row} {statics₀ : List Both} {p₀ : Page} {now : Fed}
+    {line : List ℕ} {rows : List Row} {statics : List Both} {p : Page} (r : Rounds many from bytes line₀ rows₀ statics₀ p₀ now line rows statics p) where
   -- the columns are as long as they were
   pub columns_still : Columns rows₀ statics₀ → Columns rows statics
   columns_still c =
@@ -202,59 +204,57 @@ module _ {many : Bool} {t₀ : Trace} {s₀ : Source} {bytes line₀ rows₀ sta
         statics_long = omega (arith, r.long_rows, r.long_statics, c.statics_long);
       }
 
-module _ {many : Bool} {t₀ : Trace} {s₀ : Source} {bytes line₀ rows₀ statics₀ out₀ : List ℕ} {t : Trace} {s : Source} {len : ℕ}
-    {line rows statics out : List ℕ}
-    (r : Rounds many t₀ s₀ bytes line₀ rows₀ statics₀ out₀ t s len line rows statics out) {n : Next} {line' : List ℕ}
-    (looked : NextLine s bytes n line line') (small : length line₀ ≤ 18446744073709551615) where
+module _ {many : Bool} {from : Fed} {bytes line₀ : List ℕ} {rows₀ : List Row} {statics₀ : List Both} {p₀ : Page} {now : Fed}
+    {line : List ℕ} {rows : List Row} {statics : List Both} {p : Page}
+    (r : Rounds many from bytes line₀ rows₀ statics₀ p₀ now line rows statics p) {n : Next} {line' : List ℕ}
+    (looked : NextLine now.source bytes n line line') (small : length line₀ ≤ 18446744073709551615) where
   -- a line more
-  pub round : {a : After} {rows' statics' out' : List ℕ} → n.found ≡ Line → line_room ≤ length line₀ → length out₀ ≤ 18446744073709551615
-      → length line' ≡ length line → length rows' ≡ length rows → length statics' ≡ length statics → length out' ≡ length out
-      → Does (turn_of many (take n.len line')) t len a rows rows' statics statics' out out'
-      → Rounds many t₀ s₀ bytes line₀ rows₀ statics₀ out₀ a.trace n.source a.end line' rows' statics' out'
-  round {a} {rows'} {statics'} {out'} is enough short same_line same_rows same_statics same_out turned =
+  pub round : {len : ℕ} {t' : Trace} {rows' : List Row} {statics' : List Both} {p' : Page} → n.found ≡ Line len → line_room ≤ length line₀
+      → length p₀.out.now ≤ 18446744073709551615
+      → length line' ≡ length line → length rows' ≡ length rows → length statics' ≡ length statics
+      → Does (turn_of many (take len line')) now.trace t' rows rows' statics statics' p p'
+      → Rounds many from bytes line₀ rows₀ statics₀ p₀ (record { trace = t'; source = n.source }) line' rows' statics' p'
+  round {len} {t'} {rows'} {statics'} {p'} is enough short same_line same_rows same_statics turned =
       let ended = same_ended looked in
       let did = turned.from r.sound.state r.sound.stands in
       record {
         long_line = same_line ∙ r.long_line;
         long_rows = same_rows ∙ r.long_rows;
         long_statics = same_statics ∙ r.long_statics;
-        long_out = same_out ∙ r.long_out;
+        long_out = same_room did.written ∙ r.long_out;
+        same_buffer = did.written.same_buffer ∙ r.same_buffer;
         same_end = ended ∙ r.same_end;
         few = omega (arith, r.few, turned_short did, fewer looked is);
         sound = record { state = did.next; stands = did.stands };
         fed = λ x text stands k. more (r.fed x text stands k);
       }
     where
-      more : {x : State} {text : List ℕ} → Feeding many x s₀ bytes text out₀ t s len line rows statics out
-          → Feeding many x s₀ bytes text out₀ a.trace n.source a.end line' rows' statics' out'
+      more : {x : State} {text : List ℕ} → Feeding many x from.source bytes text p₀ now line rows statics p
+          → Feeding many x from.source bytes text p₀ (record { trace = t'; source = n.source }) line' rows' statics' p'
       more f =
           let first = rw is at (taken looked f.current (omega (arith, r.long_line)) f.kept) in
           line_fed f r.same_end short (omega (arith, r.long_line)) (same_ended looked) first turned
 
   -- no line more
-  module _ {x : Fed}
-      (answer : x ≡ record { trace = t; source = n.source; len = len; more = goes_on many n.source.ended t.awaited }) where
-    none_taken : n.found ≡ More ⊎ n.found ≡ End → (text : List ℕ) → Taken s bytes text n line' n.found
-        → NoneTaken s bytes text n.source line'
-    none_taken w text t = ⊎_elim (λ (is : n.found ≡ More). rw is at t) (λ (is : n.found ≡ End). rw is at t) w
+  none_taken : (found : Found) → n.found ≡ found → ((len : ℕ) → found ≡ Line len → ⊥) → (text : List ℕ) → Taken now.source bytes text n line' found
+      → NoneTaken now.source bytes text n.source line'
+  none_taken (Line len) is other text t = absurd (other len refl)
+  none_taken More is other text t = t
+  none_taken End is other text t = t
 
-    pub rounds_end : n.found ≡ More ⊎ n.found ≡ End → (y : State) (text : List ℕ) → Stands t₀ rows₀ statics₀ y
-        → Kept text s₀.held line₀
-        → Feeds many y s₀ bytes text x rows statics line' out₀ out
-    rounds_end w y text stands k =
-        let f = r.fed y text stands k in
-        let none = none_taken w f.current (taken looked f.current (omega (arith, r.long_line)) f.kept) in
-        all_fed f r.same_end none answer (same_ended looked)
+  pub rounds_end : ((len : ℕ) → n.found ≡ Line len → ⊥) → (y : State) (text : List ℕ) → Stands from.trace rows₀ statics₀ y
+      → Kept text from.source.held line₀
+      → Feeds many y from.source bytes text (record { trace = now.trace; source = n.source }) rows statics line' p₀ p
+  rounds_end other y text stands k =
+      let f = r.fed y text stands k in
+      let none = none_taken n.found refl other f.current (taken looked f.current (omega (arith, r.long_line)) f.kept) in
+      all_fed f r.same_end none (same_ended looked)
 
-    pub still_sound : Sound x.trace rows statics
-    still_sound = rw answer r.sound
-
-    pub counted_text : text_room * (length bytes + 1) ≤ length out₀ → IsPrefixLen x.len out
-    counted_text room =
-        rw answer (prefix_len_of_le len out (omega (arith, r.few, r.long_out, few_remaining s₀ bytes)))
+  pub counted_text : p₀.at + text_room * (length bytes + 1) ≤ length p₀.out.now → IsPrefixLen p.at p.out.now
+  counted_text room = prefix_len_of_le p.at p.out.now (omega (arith, r.few, r.long_out, few_remaining from.source bytes))
 
 -- the buffers are as long as they were
-pub buffers_still : {line₀ rows₀ statics₀ line rows statics : List ℕ} → Buffers line₀ rows₀ statics₀ → length line ≡ length line₀
+pub buffers_still : {line₀ : List ℕ} {rows₀ : List Row} {statics₀ : List Both} {line : List ℕ} {rows : List Row} {statics : List Both} → Buffers line₀ rows₀ statics₀ → length line ≡ length line₀
     → length rows ≡ length rows₀
     → length statics ≡ length statics₀ → Buffers line rows statics
 buffers_still b l r s =
@@ -264,27 +264,27 @@ buffers_still b l r s =
     }
 
 -- before the first line
-pub sound_first : {t : Trace} {rows statics : List ℕ} → t.awaited ≡ Sheet → Sound t rows statics
-sound_first is = record { state = first; stands = for_first is }
+pub sound_first : {rows : List Row} {statics : List Both} → Sound Sheet rows statics
+sound_first = record { state = first; stands = for_first }
 
 -- one read, and its lines
-pub read_answered : {many : Bool} {t : Trace} {s source : Source} {r : Fed} {bytes line line' rows rows' statics statics' out out' : List ℕ}
-    → Refilled s source bytes
-    → ((x : State) (text : List ℕ) → Stands t rows statics x → Kept text source.held line
-    → Feeds many x source bytes text r rows' statics' line' out out')
-    → ReadAnswered many t s r bytes line line' rows rows' statics statics' out out'
+pub read_answered : {many : Bool} {from r : Fed} {source : Source} {bytes line line' : List ℕ} {rows rows' : List Row} {statics statics' : List Both} {p p' : Page}
+    → Refilled from.source source bytes
+    → ((x : State) (text : List ℕ) → Stands from.trace rows statics x → Kept text source.held line
+    → Feeds many x source bytes text r rows' statics' line' (record p { at = 0 }) p')
+    → ReadAnswered many from r bytes line line' rows rows' statics statics' p p'
 read_answered {source = source} refilled fed =
     let same = ap (λ (x : Source). x.held) refilled.answer in
     record { source = source; refilled = refilled; fed = λ x text stands k. fed x text stands (rw same k) }
 
 -- all bytes at once
-pub all_answered : {input : List ℕ} {t : Trace} {s : Source} {r : Fed} {rows statics line' rows' statics' out out' : List ℕ}
-    → s ≡ record { from = 0; end = length input; held = 0; ended = true } → Stands t rows statics first
-    → Feeds false first s input [] r rows' statics' line' out out' → Answered input r.len out out'
+pub all_answered : {input : List ℕ} {s : Source} {r : Fed} {line' : List ℕ} {rows' : List Row} {statics' : List Both} {p p' : Page} {out out' : List ℕ} {n : ℕ}
+    → s ≡ record { from = 0; end = length input; held = 0; ended = true } → p.at ≡ 0 → p.out.now ≡ out → p'.out.now ≡ out' → p'.at ≡ n
+    → Feeds false first s input [] r rows' statics' line' p p' → Answered input n out out'
 unfolding at_hand
-all_answered {input} is stands f =
+all_answered {input} is begun lent left place f =
     record {
       output = f.output;
       traced = record { last = f.next; printed = rw (is, take-length input) at f.printed };
-      written = f.written;
+      written = rw (begun, lent, left, place) at f.written.puts;
     }

@@ -7,11 +7,14 @@ use Rattle.texts.specs.declared.Source.{Source}
 use Rattle.texts.specs.Lines.{lines_from, lines_in}
 use Rattle.texts.specs.Reads.{at_hand}
 use Rattle.texts.proofs.Cutting.{read_on}
+use Rattle.texts.specs.declared.Page.{Page}
 use Rattle.tracing.specs.declared.Fed.{Fed}
 use Rattle.tracing.specs.Steps.{State, first, stopped, after_stop}
 use Rattle.tracing.specs.Output.{Printed, no_line, next_line, a_step, Traced}
 use Rattle.tracing.specs.Feeds.{Feeds, InReads, last_read, read_more, stopped_there, all_read}
 use Rattle.tracing.proofs.AllLines.{printed_more}
+use Rattle.sets.specs.declared.Both.{Both}
+use Rattle.sheet.specs.declared.Row.{Row}
 
 -- after a stop no line prints anything
 silent : (lines : List (List ℕ)) → Printed false stopped lines stopped []
@@ -41,8 +44,8 @@ pub all_reads : {reads : List (List ℕ)} {output : List ℕ} → InReads first 
 all_reads r = let all = prints_all r in record { last = all.last; printed = all.printed }
 
 -- what `feed` ensures is such a read: the last, or one more
-module _ {x : State} {s : Source} {bytes text : List ℕ} {r : Fed} {rows' statics' line' out out' : List ℕ}
-    (f : Feeds false x s bytes text r rows' statics' line' out out') where
+module _ {x : State} {s : Source} {bytes text : List ℕ} {r : Fed} {rows' : List Row} {statics' : List Both} {line' : List ℕ} {p p' : Page}
+    (f : Feeds false x s bytes text r rows' statics' line' p p') where
   printed_so : {b : Bool} → s.ended ≡ b → Printed false x (lines_in b text (at_hand s bytes)) f.next f.output
   printed_so is = subst (λ (b : Bool). Printed false x (lines_in b text (at_hand s bytes)) f.next f.output) is f.printed
 

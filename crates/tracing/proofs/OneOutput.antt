@@ -10,16 +10,18 @@ use Rattle.verdicts.specs.declared.Reaction.{Reaction}
 use Rattle.verdicts.specs.Runs.{Once}
 use Rattle.sheet_entries.specs.Sheets.{Checked, ReactedMany}
 use Rattle.sheet_entries.proofs.OneSheetAnswer.{one_checked, one_reacted}
-use Rattle.texts.specs.declared.Value.TheVariants.{Is, Bad}
 use Rattle.texts.specs.Bytes.{bytes, malformed}
 use Rattle.texts.proofs.Truth.{true_false}
+use Rattle.texts.specs.declared.Page.{Page}
 use Rattle.tracing.specs.declared.Trace.{Trace}
-use Rattle.tracing.specs.declared.After.{After}
 use Rattle.tracing.specs.Steps.{State, first, running, stopped, sheet_line, event_line, Headed, opened, moved, instant_of, Steps}
 use Rattle.tracing.specs.Steps.{sheet_malformed, sheet_refused, sheet_accepted, event_malformed, event_refused, instant, after_stop}
 use Rattle.tracing.specs.Stands.{Stands, step_of, Does}
 use Rattle.tracing.specs.Texts.{ok_text, refused_text}
 use Rattle.tracing.specs.Output.{Turn, a_step, anew, Printed, no_line, next_line, Traced, Answered}
+use Rattle.std.specs.Prelude.{Some, None}
+use Rattle.sets.specs.declared.Both.{Both}
+use Rattle.sheet.specs.declared.Row.{Row}
 
 pub record SameStep (t t' : State) (x x' : List ℕ) : Type 0 where
   pub state : t ≡ t'
@@ -33,7 +35,7 @@ module _ {A : Type 0} (line : List ℕ) where
   not_both : {s : List ℕ} → sheet_line line ≡ malformed → sheet_line line ≡ bytes s → A
   not_both a b = let z : ◌≡◌ {A = ℕ} 0 1 = cc in absurd (omega arith)
 
-  no_event : {event : ℕ} → event_line line ≡ Bad → event_line line ≡ Is event → A
+  no_event : {event : ℕ} → event_line line ≡ None → event_line line ≡ Some event → A
   no_event a b = let z : ◌≡◌ {A = ℕ} 0 1 = cc in absurd (omega arith)
 
 -- the sheet and its check
@@ -59,11 +61,11 @@ same_opened {s} {s'} {I} {I'} {O} {O'} is a b =
     rw (is, inputs, outputs)
 
 -- a reaction to an event
-same_reaction : (line : List ℕ) {s : List ℕ} {state event event' : ℕ} {r r' : Reaction} → event_line line ≡ Is event
-    → event_line line ≡ Is event'
+same_reaction : (line : List ℕ) {s : List ℕ} {state event event' : ℕ} {r r' : Reaction} → event_line line ≡ Some event
+    → event_line line ≡ Some event'
     → Once (ReactedMany s) state event r → Once (ReactedMany s) state event' r' → r ≡ r'
 same_reaction line {s} {state} {event} {event'} a b c d =
-    let both : Is event ≡ Is event' = sym a ∙ b in
+    let both : Some event ≡ Some event' = sym a ∙ b in
     let is : event ≡ event' = cc in
     one_reacted s state event c (rw (sym is) at d)
 
@@ -106,17 +108,17 @@ one_step stopped after_stop after_stop = same
 
 -- so the contract of a step leaves open only how the code keeps its state: two answers stand for one state, and place and buffer are the
 -- same
-pub record SameAnswer (r r' : After) (rows statics rows' statics' out out' : List ℕ) : Type 0 where
+pub record SameAnswer (r r' : Trace) (rows : List Row) (statics : List Both) (rows' : List Row) (statics' : List Both) (p p' : Page) : Type 0 where
   pub state : State
-  pub one : Stands r.trace rows statics state
-  pub other : Stands r'.trace rows' statics' state
-  pub place : r.end ≡ r'.end
-  pub buffer : out ≡ out'
+  pub one : Stands r rows statics state
+  pub other : Stands r' rows' statics' state
+  pub place : p.at ≡ p'.at
+  pub buffer : p.out.now ≡ p'.out.now
 
-pub one_stepped : {t : Trace} (x : State) (line : List ℕ) {at : ℕ} {rows statics out : List ℕ} {r r' : After}
-    {rows₁ rows₂ statics₁ statics₂ out₁ out₂ : List ℕ}
-    → Stands t rows statics x → Does (step_of line) t at r rows rows₁ statics statics₁ out out₁
-    → Does (step_of line) t at r' rows rows₂ statics statics₂ out out₂ → SameAnswer r r' rows₁ statics₁ rows₂ statics₂ out₁ out₂
+pub one_stepped : {t : Trace} (x : State) (line : List ℕ) {rows : List Row} {statics : List Both} {p : Page} {r r' : Trace}
+    {rows₁ rows₂ : List Row} {statics₁ statics₂ : List Both} {p₁ p₂ : Page}
+    → Stands t rows statics x → Does (step_of line) t r rows rows₁ statics statics₁ p p₁
+    → Does (step_of line) t r' rows rows₂ statics statics₂ p p₂ → SameAnswer r r' rows₁ statics₁ rows₂ statics₂ p₁ p₂
 one_stepped x line stands a b =
     let did = a.from x stands in
     let does = b.from x stands in
@@ -125,8 +127,8 @@ one_stepped x line stands a b =
       state = did.next;
       one = did.stands;
       other = rw one.state does.stands;
-      place = did.written.past ∙ rw one.text (sym does.written.past);
-      buffer = did.written.laid ∙ rw one.text (sym does.written.laid);
+      place = did.written.puts.past ∙ rw one.text (sym does.written.puts.past);
+      buffer = did.written.puts.laid ∙ rw one.text (sym does.written.puts.laid);
     }
 
 one_turn : (many : Bool) (t : State) {line : List ℕ} {u v : State} {x y : List ℕ} → Turn many t line u x → Turn many t line v y

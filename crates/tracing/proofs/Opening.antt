@@ -17,12 +17,15 @@ use Rattle.compiler.proofs.Passing.{judged_read}
 use Rattle.interpreter.proofs.Interpreting.{Compiled_as, prepared}
 use Rattle.verdicts.specs.Answers.{refusal, acceptance}
 use Rattle.sheet_entries.proofs.SheetEntries.{checked_refused, checked_accepted}
-use Rattle.texts.specs.Puts.{Puts}
-use Rattle.tracing.specs.declared.Awaited.TheVariants.{Nothing}
-use Rattle.tracing.specs.declared.After.{After}
+use Rattle.texts.specs.declared.Page.{Page}
+use Rattle.tracing.specs.declared.Running.{Running}
+use Rattle.tracing.specs.declared.Trace.{Trace}
+use Rattle.tracing.specs.declared.Trace.TheVariants.{Event, Nothing}
 use Rattle.tracing.specs.Texts.{ok_text, refused_text}
 use Rattle.tracing.specs.Steps.{Headed}
 use Rattle.tracing.specs.Stands.{Prints, Ready, Opens, not_opened, is_opened}
+use Rattle.sets.specs.declared.Both.{Both}
+use Rattle.sheet.specs.declared.Row.{Row}
 
 -- no refusal has the number 0
 refusal_positive : (x : Refusal) → 0 < refusal_no x
@@ -50,9 +53,9 @@ refusal_positive Line = omega arith
 refusal_positive States = omega arith
 
 -- a sheet that is refused
-pub opens_none : {s : List ℕ} {f : Fault} {at : ℕ} {r : After} {rows statics out out' : List ℕ} → Checks s (faulty f)
-    → Prints Nothing (refused_text (refusal_no f.refusal) f.place) at r out out' → Opens s at r rows statics out out'
-opens_none {f = f} was p = not_opened {a = refusal f} (checked_refused was) (refusal_positive f.refusal) p
+pub opens_none : {s : List ℕ} {f : Fault} {r : Trace} {rows : List Row} {statics : List Both} {p p' : Page} → Checks s (faulty f)
+    → Prints Nothing (refused_text (refusal_no f.refusal) f.place) r p p' → Opens s r rows statics p p'
+opens_none {f = f} was w = not_opened {a = refusal f} (checked_refused was) (refusal_positive f.refusal) w
 
 -- "A sheet is: number of inputs I, of outputs O": those of an accepted one
 headed : {s : List ℕ} {w : Sheet} {I O : ℕ} → Checks s (sheet w) → I ≡ w.inputs → O ≡ w.outputs → Headed s I O
@@ -60,13 +63,13 @@ headed {w = w} (accepted order is ordered) inputs outputs =
     record { read_as = w; is = (judged_read is).read; inputs_are = inputs; outputs_are = outputs }
 
 -- one that is accepted is ready
-pub opens_sheet : {s rows statics cells : List ℕ} {c : Counts} {n at : ℕ} {r : After} {out out' : List ℕ}
+pub opens_sheet : {s : List ℕ} {rows : List Row} {statics : List Both} {cells : List ℕ} {c : Counts} {n : ℕ} {k : Running} {r : Trace} {p p' : Page}
     → Compiled_as s c n rows statics cells
-    → Ready rows c n r.trace → Puts (ok_text c.statements n) at r.end out out' → Opens s at r rows statics out out'
-opens_sheet {c = c} {n = n} a t p =
+    → Ready rows c n k → Prints (Event k) (ok_text c.statements n) r p p' → Opens s r rows statics p p'
+opens_sheet {c = c} {n = n} a t w =
     is_opened {a = acceptance c.statements n} (checked_accepted a) refl
     (headed a.accepts (ap (λ (k : Counts). k.inputs) a.counts) (ap (λ (k : Counts). k.outputs) a.counts))
-    (record { awaits = t.awaits; written = p })
+    w
     (record {
       read_as = a.read;
       accepts = a.accepts;

@@ -1,5 +1,5 @@
 -- The outputs in a set of signals: their definition by numbers, and what is in both the signals and the set of all outputs.
-use Prim.Native.Nat.{ℕ, suc, ◌+◌, ◌-◌, ◌*◌, ◌/◌, ◌%◌, ◌^◌, ◌≤◌, ◌<◌}
+use Prim.Native.Nat.{ℕ, suc, ◌+◌, ◌-◌, ◌*◌, ◌/◌, ◌%◌, ◌^◌, ◌≤◌, ◌<◌, min}
 use mathlib.Core.Path.{◌≡◌, refl, sym, ap, ◌∙◌}
 use mathlib.Core.Bool.{Bool, true, false, ◌&&◌, ◌||◌, and_comm, or-false}
 use native.Mathlib.Nat.{mul_assoc, pow-suc, mod-lt, mul-mod_left}
@@ -86,17 +86,15 @@ one_added {I} {s} {set} after a more = record { these = λ j h. more j ∙ rw (a
         let same : j ≡ s = omega arith in
         rw (same, lt-ltb I s after, le-ltb s s (omega arith), eq-eqb s s refl, lt-ltb s (s + 1) (omega arith))
 
--- all are added, or all that have a bit
-pub all_added : {I O s set : ℕ} → s ≤ 1 + I + O → 1 + I + O ≤ s → Added I s set → Outputs I O set
-all_added {I} {O} {s} most least a = record { these = λ j h. a.these j h ∙ ap (λ (b : Bool). ltb I j && b) (by_place j (dec_lt j s)) }
+-- all are added, as far as they have a bit
+pub outputs_added : {I O s set : ℕ} → min (1 + I + O) width ≤ s → (1 + I + O < width → s ≤ 1 + I + O) → Added I s set → Outputs I O set
+outputs_added {I} {O} {s} most least a = record { these = λ j h. a.these j h ∙ ap (λ (b : Bool). ltb I j && b) (by_place j h (dec_lt j s) (dec_lt j (1 + I + O))) }
   where
-    by_place : (j : ℕ) → Dec (j < s) → ltb j s ≡ leb j (I + O)
-    by_place j (yes h) = rw (lt-ltb j s h, le-leb j (I + O) (omega arith))
-    by_place j (no h) = rw (le-ltb j s (omega arith), lt-leb j (I + O) (omega arith))
-
-pub wide_added : {I O s set : ℕ} → s ≤ 1 + I + O → width ≤ s → Added I s set → Outputs I O set
-wide_added {I} {O} {s} most wide a =
-    record { these = λ j h. a.these j h ∙ rw (lt-ltb j s (omega arith), le-leb j (I + O) (omega arith)) }
+    by_place : (j : ℕ) → j < width → Dec (j < s) → Dec (j < 1 + I + O) → ltb j s ≡ leb j (I + O)
+    by_place j h (yes below) (yes in_set) = rw (lt-ltb j s below, le-leb j (I + O) (omega arith))
+    by_place j h (no above) (no out_of) = rw (le-ltb j s (omega arith), lt-leb j (I + O) (omega arith))
+    by_place j h (yes below) (no out_of) = absurd (omega arith)
+    by_place j h (no above) (yes in_set) = absurd (omega arith)
 
 -- what is in the signals and in that set
 pub met_outputs : (I O : ℕ) (signals : Bits) {set met : ℕ} → Proper signals.words → Outputs I O set

@@ -1,7 +1,7 @@
 -- What the functions behind a step answer makes the step of the definition.
 use Prim.Native.Nat.{ℕ, ◌/◌, ◌≤◌, ◌<◌}
 use mathlib.Core.Path.{◌≡◌, refl, sym, ap, ◌∙◌}
-use mathlib.Core.Bool.{true, false}
+use mathlib.Core.Bool.{true}
 use mathlib.Core.List.{List, []}
 use native.Mathlib.Omega.{arith}
 use borrow.Author.Tests.{le-leb, lt-leb}
@@ -15,69 +15,61 @@ use Rattle.verdicts.specs.declared.Reaction.{Reaction}
 use Rattle.verdicts.specs.Runs.{Once}
 use Rattle.sheet_entries.specs.Sheets.{ReactedMany}
 use Rattle.sheet_entries.proofs.SheetEntries.{many_ran}
-use Rattle.texts.specs.declared.Value.TheVariants.{Is}
-use Rattle.texts.specs.declared.Hex.{Hex}
-use Rattle.texts.specs.declared.SetRead.{SetRead}
+use Rattle.bits.specs.declared.Bits.{Bits}
+use Rattle.texts.specs.declared.Page.{Page}
 use Rattle.texts.specs.Digits.{value_of, SetIs}
 use Rattle.texts.specs.Bytes.{Decoded, bytes, malformed, bytes_within, Unhexed}
 use Rattle.texts.specs.Written.{bad_text}
-use Rattle.texts.specs.Puts.{Puts}
+use Rattle.texts.specs.Puts.{Writes}
 use Rattle.texts.proofs.Pairs.{within, were_bytes, were_none}
-use Rattle.texts.proofs.Putting.{puts_none}
 use Rattle.texts.proofs.Sets.{was_set, was_no_set}
-use Rattle.tracing.specs.declared.Awaited.TheVariants.{Sheet as ASheet, Event, Nothing}
+use Rattle.tracing.specs.declared.Running.{Running}
 use Rattle.tracing.specs.declared.Trace.{Trace}
-use Rattle.tracing.specs.declared.After.{After}
+use Rattle.tracing.specs.declared.Trace.TheVariants.{Sheet as ASheet, Event, Nothing}
 use Rattle.tracing.specs.Sizes.{sheet_digits, sheet_room, event_digits}
 use Rattle.tracing.specs.Texts.{refused_text}
 use Rattle.tracing.specs.Steps.{Held, State, first, running, stopped, sheet_line, event_line, Steps, counted}
 use Rattle.tracing.specs.Steps.{sheet_malformed, sheet_refused, sheet_accepted, event_malformed, event_refused, instant, after_stop}
 use Rattle.tracing.specs.Stands.{Holding, Stands, for_first, for_running, for_stopped, Sound}
 use Rattle.tracing.specs.Stands.{Prints, Moves, Opens, not_opened, is_opened, Move, step_of, Leads, Does}
+use Rattle.std.specs.Prelude.{Option, Some, None}
+use Rattle.sets.specs.declared.Both.{Both}
+use Rattle.sheet.specs.declared.Row.{Row}
 
--- which state a trace stands for, by what it awaits
-module _ {move : Move} {t : Trace} {at : ℕ} {r : After} {rows rows' statics statics' out out' : List ℕ} where
-  from_first : t.awaited ≡ ASheet → Leads move first at r rows' statics' out out' → Does move t at r rows rows' statics statics' out out'
-  from_first is did = record { from = by_state }
+-- which state a trace stands for
+module _ {move : Move} {r : Trace} {rows rows' : List Row} {statics statics' : List Both} {p p' : Page} where
+  from_first : Leads move first r rows' statics' p p' → Does move ASheet r rows rows' statics statics' p p'
+  from_first did = record { from = λ x stands. by_state stands }
     where
-      by_state : (x : State) → Stands t rows statics x → Leads move x at r rows' statics' out out'
-      by_state first (for_first e) = did
-      by_state (running h) (for_running e held) = let z : ◌≡◌ {A = ℕ} 0 1 = cc in absurd (omega arith)
-      by_state stopped (for_stopped e) = let z : ◌≡◌ {A = ℕ} 0 1 = cc in absurd (omega arith)
+      by_state : {x : State} → Stands ASheet rows statics x → Leads move x r rows' statics' p p'
+      by_state for_first = did
 
-  from_running : t.awaited ≡ Event → ((h : Held) → Holding t rows statics h → Leads move (running h) at r rows' statics' out out')
-      → Does move t at r rows rows' statics statics' out out'
-  from_running is did = record { from = by_state }
+  from_running : {k : Running} → ((h : Held) → Holding k rows statics h → Leads move (running h) r rows' statics' p p')
+      → Does move (Event k) r rows rows' statics statics' p p'
+  from_running {k} did = record { from = λ x stands. by_state stands }
     where
-      by_state : (x : State) → Stands t rows statics x → Leads move x at r rows' statics' out out'
-      by_state first (for_first e) = let z : ◌≡◌ {A = ℕ} 0 1 = cc in absurd (omega arith)
-      by_state (running h) (for_running e held) = did h held
-      by_state stopped (for_stopped e) = let z : ◌≡◌ {A = ℕ} 0 1 = cc in absurd (omega arith)
+      by_state : {x : State} → Stands (Event k) rows statics x → Leads move x r rows' statics' p p'
+      by_state (for_running {h = h} held) = did h held
 
-  from_stopped : t.awaited ≡ Nothing → Leads move stopped at r rows' statics' out out'
-      → Does move t at r rows rows' statics statics' out out'
-  from_stopped is did = record { from = by_state }
+  from_stopped : Leads move stopped r rows' statics' p p' → Does move Nothing r rows rows' statics statics' p p'
+  from_stopped did = record { from = λ x stands. by_state stands }
     where
-      by_state : (x : State) → Stands t rows statics x → Leads move x at r rows' statics' out out'
-      by_state first (for_first e) = let z : ◌≡◌ {A = ℕ} 0 1 = cc in absurd (omega arith)
-      by_state (running h) (for_running e held) = let z : ◌≡◌ {A = ℕ} 0 1 = cc in absurd (omega arith)
-      by_state stopped (for_stopped e) = did
+      by_state : {x : State} → Stands Nothing rows statics x → Leads move x r rows' statics' p p'
+      by_state for_stopped = did
 
 -- where an event is awaited a program is ready, and the state fits
-pub sound_ready : {t : Trace} {rows statics : List ℕ} → Sound t rows statics → t.awaited ≡ Event
-    → Prepared t.program rows statics × Fitted rows (whole t.state) true
-sound_ready {t} {rows} {statics} sound is = by_state sound.state sound.stands
+pub sound_ready : {t : Trace} {k : Running} {rows : List Row} {statics : List Both} → Sound t rows statics → t ≡ Event k
+    → Prepared k.program rows statics × Fitted rows (whole k.state) true
+sound_ready {k = k} {rows = rows} {statics = statics} sound is = by_state (rw is at sound.stands)
   where
-    by_state : (x : State) → Stands t rows statics x → Prepared t.program rows statics × Fitted rows (whole t.state) true
-    by_state first (for_first e) = let z : ◌≡◌ {A = ℕ} 0 1 = cc in absurd (omega arith)
-    by_state (running h) (for_running e held) = (record { read = held.read_as; is = held.ready }, held.fit)
-    by_state stopped (for_stopped e) = let z : ◌≡◌ {A = ℕ} 0 1 = cc in absurd (omega arith)
+    by_state : {x : State} → Stands (Event k) rows statics x → Prepared k.program rows statics × Fitted rows (whole k.state) true
+    by_state (for_running held) = (record { read = held.read_as; is = held.ready }, held.fit)
 
 -- a line that ends the trace
-stops : {x : State} {line text : List ℕ} {at : ℕ} {r : After} {rows' statics' out out' : List ℕ} → Steps x line stopped text
-    → Prints Nothing text at r out out'
-    → Leads (step_of line) x at r rows' statics' out out'
-stops did p = record { next = stopped; text = _; moves = did; stands = for_stopped p.awaits; written = p.written }
+stops : {x : State} {line text : List ℕ} {r : Trace} {rows' : List Row} {statics' : List Both} {p p' : Page} → Steps x line stopped text
+    → Prints Nothing text r p p'
+    → Leads (step_of line) x r rows' statics' p p'
+stops did w = record { next = stopped; text = _; moves = did; stands = rw w.awaits for_stopped; written = w.written }
 
 -- a line of more digits is malformed, and the bytes of any other have room
 pub too_long : (line : List ℕ) → sheet_digits < length line → sheet_line line ≡ malformed
@@ -85,7 +77,7 @@ unfolding sheet_line
 too_long line h = rw (lt-leb (length line) sheet_digits h)
 
 -- the sheet's line
-module _ (line : List ℕ) {x : Hex} {buffer buffer' : List ℕ} (few : length line ≤ sheet_digits) (long : sheet_room ≤ length buffer)
+module _ (line : List ℕ) {x : Option ℕ} {buffer buffer' : List ℕ} (few : length line ≤ sheet_digits) (long : sheet_room ≤ length buffer)
     (read : Unhexed line x buffer buffer') where
   read_as : {d : Decoded} → bytes_within (length buffer) line ≡ d → sheet_line line ≡ d
   unfolding sheet_line
@@ -93,32 +85,30 @@ module _ (line : List ℕ) {x : Hex} {buffer buffer' : List ℕ} (few : length l
       let fits : length line / 2 ≤ length buffer = omega arith in
       rw (le-leb (length line) sheet_digits few) (sym (within line (length buffer) fits) ∙ e)
 
-  these : x.good ≡ true → sheet_line line ≡ bytes (take x.len buffer')
-  these good = read_as (were_bytes read good)
+  these : {n : ℕ} → x ≡ Some n → sheet_line line ≡ bytes (take n buffer')
+  these is = read_as (were_bytes (rw is at read))
 
-module _ {t : Trace} (is : t.awaited ≡ ASheet) (line : List ℕ) {at : ℕ} {r : After} {rows rows' statics statics' out out' : List ℕ} where
-  pub first_long : sheet_digits < length line → Prints Nothing bad_text at r out out'
-      → Does (step_of line) t at r rows rows' statics statics' out out'
-  first_long h p = from_first is (stops (sheet_malformed (too_long line h)) p)
+module _ (line : List ℕ) {r : Trace} {rows rows' : List Row} {statics statics' : List Both} {p p' : Page} where
+  pub first_long : sheet_digits < length line → Prints Nothing bad_text r p p' → Does (step_of line) ASheet r rows rows' statics statics' p p'
+  first_long h w = from_first (stops (sheet_malformed (too_long line h)) w)
 
-  module _ {x : Hex} {buffer buffer' : List ℕ} (few : length line ≤ sheet_digits) (long : sheet_room ≤ length buffer)
+  module _ {x : Option ℕ} {buffer buffer' : List ℕ} (few : length line ≤ sheet_digits) (long : sheet_room ≤ length buffer)
       (read : Unhexed line x buffer buffer') where
-    pub first_bad : x.good ≡ false → Prints Nothing bad_text at r out out' → Does (step_of line) t at r rows rows' statics statics' out out'
-    first_bad bad p = from_first is (stops (sheet_malformed (read_as line few long read (were_none read bad))) p)
+    pub first_bad : x ≡ None → Prints Nothing bad_text r p p' → Does (step_of line) ASheet r rows rows' statics statics' p p'
+    first_bad is w = from_first (stops (sheet_malformed (read_as line few long read (were_none (rw is at read)))) w)
 
-    pub first_opened : x.good ≡ true → Opens (take x.len buffer') at r rows' statics' out out'
-        → Does (step_of line) t at r rows rows' statics statics' out out'
-    first_opened good did = from_first is (opened_as did)
+    pub first_opened : {n : ℕ} → x ≡ Some n → Opens (take n buffer') r rows' statics' p p' → Does (step_of line) ASheet r rows rows' statics statics' p p'
+    first_opened {n} is did = from_first (opened_as did)
       where
-        opened_as : Opens (take x.len buffer') at r rows' statics' out out' → Leads (step_of line) first at r rows' statics' out out'
-        opened_as (not_opened was some p) = stops (sheet_refused (these line few long read good) was some) p
-        opened_as (is_opened was none head p held) =
+        opened_as : Opens (take n buffer') r rows' statics' p p' → Leads (step_of line) first r rows' statics' p p'
+        opened_as (not_opened was some w) = stops (sheet_refused (these line few long read is) was some) w
+        opened_as (is_opened was none head w held) =
             record {
               next = running _;
               text = _;
-              moves = sheet_accepted (these line few long read good) was none head;
-              stands = for_running p.awaits held;
-              written = p.written;
+              moves = sheet_accepted (these line few long read is) was none head;
+              stands = rw w.awaits (for_running held);
+              written = w.written;
             }
 
 -- the reactions of the program made ready are those of its sheet
@@ -126,50 +116,47 @@ react_of : {s : List ℕ} {w : Sheet} {state event : ℕ} {r : Reaction} → Acc
     → Once (ReactedMany s) state event r
 react_of was o = record { told = o.told; ran = many_ran was o.ran; is = o.is }
 
-reacted : {t : Trace} {rows statics : List ℕ} {event : ℕ} {r : Reaction} {h : Held}
-    → ProgramReacts t.program rows statics (whole t.state) event r
-    → Holding t rows statics h → Once (ReactedMany h.sheet) h.state event r
+reacted : {k : Running} {rows : List Row} {statics : List Both} {event : ℕ} {r : Reaction} {h : Held}
+    → ProgramReacts k.program rows statics (whole k.state) event r
+    → Holding k rows statics h → Once (ReactedMany h.sheet) h.state event r
 reacted reacts held = rw held.state (react_of held.accepts (reacts.reacts held.read_as held.ready))
 
 -- an event's line
-is_event : (line : List ℕ) {e : SetRead} → SetIs (value_of 16 event_digits line) e → e.good ≡ true → event_line line ≡ Is (whole e.set)
+is_event : (line : List ℕ) {event : Bits} → SetIs (value_of 16 event_digits line) (Some event) → event_line line ≡ Some (whole event)
 unfolding event_line
-is_event line read good = was_set read good
+is_event line read = was_set read
 
-module _ {t : Trace} (awaits : t.awaited ≡ Event) (line : List ℕ) {e : SetRead} (read : SetIs (value_of 16 event_digits line) e) {at : ℕ}
-    {a : After}
-    {rows statics out out' : List ℕ} where
-  pub event_bad : e.good ≡ false → Prints Nothing bad_text at a out out' → Does (step_of line) t at a rows rows statics statics out out'
+module _ {k : Running} (line : List ℕ) {e : Option Bits} (read : SetIs (value_of 16 event_digits line) e) {t : Trace} {rows : List Row} {statics : List Both}
+    {p p' : Page} where
+  pub event_bad : e ≡ None → Prints Nothing bad_text t p p' → Does (step_of line) (Event k) t rows rows statics statics p p'
   unfolding event_line
-  event_bad bad p = from_running awaits (λ h held. stops (event_malformed (was_no_set read bad)) p)
+  event_bad is w = from_running (λ h held. stops (event_malformed (was_no_set (rw is at read))) w)
 
-  module _ (good : e.good ≡ true) {r : Reaction}
-      (reacts : ProgramReacts t.program rows statics (whole t.state) (whole e.set) r) where
-    pub event_no : 0 < r.number → a.trace ≡ t → Puts (refused_text r.number r.place) at a.end out out'
-        → Does (step_of line) t at a rows rows statics statics out out'
-    event_no some same p =
-        from_running awaits
+  module _ {event : Bits} (is : e ≡ Some event) {r : Reaction} (reacts : ProgramReacts k.program rows statics (whole k.state) (whole event) r) where
+    pub event_no : 0 < r.number → t ≡ Event k → Writes (refused_text r.number r.place) p p'
+        → Does (step_of line) (Event k) t rows rows statics statics p p'
+    event_no some same w =
+        from_running
         (λ h held.
         record {
           next = running h;
           text = _;
-          moves = event_refused (is_event line read good) (reacted reacts held) some;
-          stands = rw same (for_running awaits held);
-          written = p;
+          moves = event_refused (is_event line (rw is at read)) (reacted reacts held) some;
+          stands = rw same (for_running held);
+          written = w;
         })
 
-    pub event_instant : Fitted rows (whole r.state) true → r.number ≡ 0 → Moves t r at a out out'
-        → Does (step_of line) t at a rows rows statics statics out out'
+    pub event_instant : Fitted rows (whole r.state) true → r.number ≡ 0 → Moves k r t p p' → Does (step_of line) (Event k) t rows rows statics statics p p'
     event_instant fit none m =
-        from_running awaits
+        from_running
         (λ h held.
         record {
           next = running _;
           text = _;
-          moves = instant (is_event line read good) (reacted reacts held) none;
+          moves = instant (is_event line (rw is at read)) (reacted reacts held) none;
           stands =
               rw m.next
-              (for_running refl
+              (for_running
               (record {
                 read_as = held.read_as;
                 accepts = held.accepts;
@@ -183,7 +170,6 @@ module _ {t : Trace} (awaits : t.awaited ≡ Event) (line : List ℕ) {e : SetRe
         })
 
 -- after a stop nothing is done
-pub stopped_step : {t : Trace} (line out rows statics : List ℕ) (at : ℕ) → t.awaited ≡ Nothing → at ≤ 18446744073709551615
-    → Does (step_of line) t at (record { trace = t; end = at }) rows rows statics statics out out
-stopped_step line out rows statics at is h =
-    from_stopped is (record { next = stopped; text = []; moves = after_stop; stands = for_stopped is; written = puts_none out at h })
+pub stopped_step : {t : Trace} (line : List ℕ) {rows : List Row} {statics : List Both} {p p' : Page} → t ≡ Nothing → Writes [] p p'
+    → Does (step_of line) t t rows rows statics statics p p'
+stopped_step line is w = rw is (from_stopped (record { next = stopped; text = []; moves = after_stop; stands = for_stopped; written = w }))

@@ -1,5 +1,5 @@
 -- "Trace program": what one line does, from a state and the line to a state and the text that is printed.
-use Rattle.std.specs.Prelude.{ℕ, ◌+◌, ◌*◌, ◌/◌, ◌%◌, ◌^◌, ◌<◌, min, ◌≡◌, cond, List, [], leb, length}
+use Rattle.std.specs.Prelude.{ℕ, ◌+◌, ◌*◌, ◌/◌, ◌%◌, ◌^◌, ◌<◌, min, ◌≡◌, cond, List, [], leb, length, Option, Some, None}
 use Rattle.bits.specs.Bits.{has, whole}
 use Rattle.sheet.specs.Read.{Sheet, sheet, read_sheet}
 use Rattle.rules.specs.States.{at_rest}
@@ -7,8 +7,6 @@ use Rattle.verdicts.specs.declared.Answer.{Answer}
 use Rattle.verdicts.specs.declared.Reaction.{Reaction}
 use Rattle.verdicts.specs.Runs.{Once}
 use Rattle.sheet_entries.specs.Sheets.{Checked, ReactedMany}
-use Rattle.texts.specs.declared.Value.{Value}
-use Rattle.texts.specs.declared.Value.TheVariants.{Is, Bad}
 use Rattle.texts.specs.Digits.{value_of}
 use Rattle.texts.specs.Bytes.{Decoded, bytes, malformed, bytes_of}
 use Rattle.texts.specs.Written.{bad_text}
@@ -34,7 +32,7 @@ unfoldable pub sheet_line : List ℕ → Decoded
 sheet_line line = cond (leb (length line) sheet_digits) (bytes_of line) malformed
 
 -- "then one event in hex a line", "an event line 1 to 16"
-unfoldable pub event_line : List ℕ → Value
+unfoldable pub event_line : List ℕ → Option ℕ
 event_line line = value_of 16 event_digits line
 
 -- "A sheet is: number of inputs I, of outputs O, one statement."
@@ -74,11 +72,11 @@ pub data Steps : State → List ℕ → State → List ℕ → Type 0 where
       → Steps first line stopped (refused_text r.number r.place)
   sheet_accepted : {line s : List ℕ} {r : Answer} {I O : ℕ} → sheet_line line ≡ bytes s → Checked s r → r.number ≡ 0 → Headed s I O
       → Steps first line (running (opened s I O)) (ok_text r.statements r.cells)
-  event_malformed : {h : Held} {line : List ℕ} → event_line line ≡ Bad → Steps (running h) line stopped bad_text
-  event_refused : {h : Held} {line : List ℕ} {event : ℕ} {r : Reaction} → event_line line ≡ Is event
+  event_malformed : {h : Held} {line : List ℕ} → event_line line ≡ None → Steps (running h) line stopped bad_text
+  event_refused : {h : Held} {line : List ℕ} {event : ℕ} {r : Reaction} → event_line line ≡ Some event
       → Once (ReactedMany h.sheet) h.state event r → 0 < r.number
       → Steps (running h) line (running h) (refused_text r.number r.place)
-  instant : {h : Held} {line : List ℕ} {event : ℕ} {r : Reaction} → event_line line ≡ Is event
+  instant : {h : Held} {line : List ℕ} {event : ℕ} {r : Reaction} → event_line line ≡ Some event
       → Once (ReactedMany h.sheet) h.state event r → r.number ≡ 0
       → Steps (running h) line (running (moved h r)) (instant_of h r)
   after_stop : {line : List ℕ} → Steps stopped line stopped []

@@ -8,103 +8,88 @@ ghost use Rattle.tracing.specs.Stands.{Columns, Stands, Sound, Does};
 ghost use Rattle.tracing.specs.Output.{Answered};
 ghost use Rattle.tracing.specs.Feeds.{turn_of, goes_on, Buffers, Feeds, ReadAnswered};
 
-use crate::{After, Awaited, Fed, LINE_ROOM, Trace};
+use crate::{Fed, LINE_ROOM, Trace};
+use sets::Both;
+use sheet::Row;
 use std::io::{Read, Write};
-use texts::{Found, Source};
+use texts::{Found, Page};
 
 // The bytes of one read, and the room for what their lines print.
 const READ: usize = 1024;
 
 const OUT: usize = 65600;
 
-// The step of a line; of many traces, a line `--` begins the next.
+// The step of a line; of many traces, a line `--` begins the next. The two programs differ in this line alone, so a flag tells them apart: a step handed in as a closure
+// would have to promise all that `Does` says.
 fn turn(
     many: bool,
     trace: Trace,
-    rows: &mut [u64],
-    statics: &mut [u64],
+    rows: &mut [Row],
+    statics: &mut [Both],
     line: &[u8],
-    out: &mut [u8],
-    at: usize,
-) -> After
+    page: &mut Page,
+) -> Trace
     requires { Columns rows.old statics.old × Sound trace rows.old statics.old }
-    ensures { Does (turn_of many line.now) trace at result rows.old rows.new statics.old statics.new
-        out.old out.new }
+    ensures { Does (turn_of many line.now) trace result rows.old rows.new statics.old statics.new
+        page.old page.new }
 {
-    if many {
-        if texts::same(line, b"--") {
-            return After {
-                trace: crate::awaiting(Awaited::Sheet),
-                end: texts::put_bytes(out, at, b"--\n"),
-            };
+    let dashes: &[u8] = b"--";
+    if many && line == dashes {
+        page.bytes(b"--\n");
+        return Trace::Sheet;
+    }
+    crate::step(trace, rows, statics, line, page)
+}
+
+impl Fed {
+    // Whether to go on: not where the input has ended, nor where a trace has stopped, unless another may begin.
+    #[tactic(auto, unfolding(crate::specs::Feeds::goes_on))]
+    pub fn goes_on(&self, many: bool) -> bool
+        ensures { result ≡ goes_on many self.now.source.ended self.now.trace }
+    {
+        if self.source.ended {
+            return false;
         }
-    }
-    crate::step(trace, rows, statics, line, out, at)
-}
-
-// Whether to go on.
-fn goes_on(many: bool, ended: bool, awaited: Awaited) -> bool
-    ensures { result ≡ goes_on many ended awaited }
-{
-    if ended {
-        return false;
-    }
-    if many {
-        return true;
-    }
-    match awaited {
-        Awaited::Sheet => true,
-        Awaited::Event => true,
-        Awaited::Nothing => false,
-    }
-}
-
-fn fed(many: bool, trace: Trace, source: Source, len: usize) -> Fed
-    ensures { result ≡ record { trace = trace; source = source; len = len; more = goes_on many source.ended trace.awaited } }
-{
-    let awaited = trace.awaited;
-    Fed {
-        trace,
-        source,
-        len,
-        more: goes_on(many, source.ended, awaited),
+        if many {
+            return true;
+        }
+        match self.trace {
+            Trace::Sheet => true,
+            Trace::Event(_) => true,
+            Trace::Nothing => false,
+        }
     }
 }
 
 // Answers all lines of the bytes at hand. Where the input has ended with them, that is the whole rest of the output.
 pub fn feed(
     many: bool,
-    trace: Trace,
-    s: Source,
+    from: Fed,
     bytes: &[u8],
     line: &mut [u8],
-    rows: &mut [u64],
-    statics: &mut [u64],
-    out: &mut [u8],
+    rows: &mut [Row],
+    statics: &mut [Both],
+    page: &mut Page,
 ) -> Fed
-    requires { Buffers line.old rows.old statics.old × Sound trace rows.old statics.old }
-    ensures prefix_len { (text_room * (length bytes.now + 1) ≤ length out.old → IsPrefixLen result.len out.new)
+    requires { Buffers line.old rows.old statics.old × Sound from.trace rows.old statics.old }
+    ensures prefix_len { (page.old.at + text_room * (length bytes.now + 1) ≤ length page.old.out.now → IsPrefixLen page.new.at page.new.out.now)
         × Sound result.trace rows.new statics.new }
-    ensures feeds { (x : State) (text : List ℕ) → Stands trace rows.old statics.old x → Kept text s.held line.old
-        → Feeds many x s bytes.now text result rows.new statics.new line.new out.old out.new }
+    ensures same_buffer { page.new.out.ghost_name ≡ page.old.out.ghost_name }
+    ensures same_room { length page.new.out.now ≡ length page.old.out.now }
+    ensures feeds { (x : State) (text : List ℕ) → Stands from.trace rows.old statics.old x → Kept text from.source.held line.old
+        → Feeds many x from.source bytes.now text result rows.new statics.new line.new page.old page.new }
 {
-    let mut now = trace;
-    let mut source = s;
-    let mut len = 0;
+    // The place fits its type: a fact of the read, for the arms that write nothing.
+    let _begun = page.at;
+    let mut now = from;
+    // A turn for each line: how many there are shows only as they are found.
     loop {
-        let next = texts::next_line(source, bytes, line);
-        source = next.source;
-        let found = next.found;
-        match found {
-            Found::Line => {
-                let n = next.len;
-                let after = turn(many, now, rows, statics, &line[..n], out, len);
-                now = after.trace;
-                len = after.end;
-            }
-            Found::More => return fed(many, now, source, len),
-            Found::End => return fed(many, now, source, len),
-        }
+        let next = texts::next_line(now.source, bytes, line);
+        now.source = next.source;
+        let Found::Line(n) = next.found else {
+            return now;
+        };
+        now.trace = turn(many, now.trace, rows, statics, &line[..n], page);
     }
 }
 
@@ -113,21 +98,23 @@ pub fn traced(input: &[u8], out: &mut [u8]) -> usize
     ensures { Answered input.now result out.old out.new }
 {
     let mut line = [0u8; LINE_ROOM];
-    let mut rows = [0u64; limits::MAX_STATEMENTS];
-    let mut statics = [0u64; limits::MAX_STATEMENTS];
-    let trace = crate::awaiting(Awaited::Sheet);
-    let all = texts::all_read(input);
-    let fed = feed(
+    let mut rows = [Row::empty(); limits::MAX_STATEMENTS];
+    let mut statics = [Both::empty(); limits::MAX_STATEMENTS];
+    let from = Fed {
+        trace: Trace::Sheet,
+        source: texts::all_read(input),
+    };
+    let mut page = Page { out, at: 0 };
+    let _ = feed(
         false,
-        trace,
-        all,
+        from,
         input,
         &mut line,
         &mut rows,
         &mut statics,
-        out,
+        &mut page,
     );
-    fed.len
+    page.at
 }
 
 // Reads once, answers what was read, and writes the answers out. Those that cannot be written are lost.
@@ -135,23 +122,31 @@ fn answer_read<R: Read, W: Write>(
     input: &mut R,
     output: &mut W,
     many: bool,
-    trace: Trace,
-    s: Source,
+    from: Fed,
     bytes: &mut [u8],
     line: &mut [u8],
-    rows: &mut [u64],
-    statics: &mut [u64],
-    out: &mut [u8],
+    rows: &mut [Row],
+    statics: &mut [Both],
+    page: &mut Page,
 ) -> Fed
-    requires { Buffers line.old rows.old statics.old × Sound trace rows.old statics.old × (text_room * (length bytes.old + 1) ≤ length out.old) }
+    requires { Buffers line.old rows.old statics.old × Sound from.trace rows.old statics.old × (text_room * (length bytes.old + 1) ≤ length page.old.out.now) }
     ensures sound { Sound result.trace rows.new statics.new }
-    ensures read_answered { ReadAnswered many trace s result bytes.new line.old line.new rows.old rows.new
-        statics.old statics.new out.old out.new }
+    ensures same_room { length page.new.out.now ≡ length page.old.out.now }
+    ensures read_answered { ReadAnswered many from result bytes.new line.old line.new rows.old rows.new
+        statics.old statics.new page.old page.new }
 {
-    let source = texts::refill(input, bytes, s);
-    let fed = feed(many, trace, source, bytes, line, rows, statics, out);
-    let n = fed.len;
-    let _ = output.write_all(&out[..n]);
+    let source = texts::refill(input, bytes, from.source);
+    page.at = 0;
+    let fed = feed(
+        many,
+        Fed { source, ..from },
+        bytes,
+        line,
+        rows,
+        statics,
+        page,
+    );
+    let _ = output.write_all(page.text());
     let _ = output.flush();
     fed
 }
@@ -162,25 +157,21 @@ fn answer_reads<R: Read, W: Write>(
     many: bool,
     bytes: &mut [u8],
     line: &mut [u8],
-    rows: &mut [u64],
-    statics: &mut [u64],
-    out: &mut [u8],
+    rows: &mut [Row],
+    statics: &mut [Both],
+    page: &mut Page,
 )
-    requires { Buffers line.old rows.old statics.old × (text_room * (length bytes.old + 1) ≤ length out.old) }
+    requires { Buffers line.old rows.old statics.old × (text_room * (length bytes.old + 1) ≤ length page.old.out.now) }
 {
-    let mut trace = crate::awaiting(Awaited::Sheet);
-    let mut source = texts::nothing_read();
-    let mut turns = u64::MAX;
-    while turns > 0 {
-        let fed = answer_read(
-            input, output, many, trace, source, bytes, line, rows, statics, out,
-        );
-        if !fed.more {
+    let mut now = Fed {
+        trace: Trace::Sheet,
+        source: texts::nothing_read(),
+    };
+    for _ in 0..u64::MAX {
+        now = answer_read(input, output, many, now, bytes, line, rows, statics, page);
+        if !now.goes_on(many) {
             return;
         }
-        trace = fed.trace;
-        source = fed.source;
-        turns -= 1;
     }
 }
 
@@ -188,9 +179,13 @@ fn answer_reads<R: Read, W: Write>(
 pub fn serve<R: Read, W: Write>(input: &mut R, output: &mut W, many: bool) {
     let mut bytes = [0u8; READ];
     let mut line = [0u8; LINE_ROOM];
-    let mut rows = [0u64; limits::MAX_STATEMENTS];
-    let mut statics = [0u64; limits::MAX_STATEMENTS];
+    let mut rows = [Row::empty(); limits::MAX_STATEMENTS];
+    let mut statics = [Both::empty(); limits::MAX_STATEMENTS];
     let mut out = [0u8; OUT];
+    let mut page = Page {
+        out: &mut out,
+        at: 0,
+    };
     answer_reads(
         input,
         output,
@@ -199,6 +194,6 @@ pub fn serve<R: Read, W: Write>(input: &mut R, output: &mut W, many: bool) {
         &mut line,
         &mut rows,
         &mut statics,
-        &mut out,
+        &mut page,
     );
 }

@@ -11,17 +11,17 @@ ghost use Rattle.bits.specs.Bits.{whole};
 ghost use Rattle.rules.specs.Words.{Runnable, root, Fitted};
 ghost use Rattle.interpreter.specs.Program.{Prepared};
 ghost use Rattle.texts.specs.Written.{bad_text};
-ghost use Rattle.texts.specs.Puts.{Puts};
+ghost use Rattle.texts.specs.Puts.{Writes};
 ghost use Rattle.tracing.specs.Texts.{refused_text};
 ghost use Rattle.tracing.specs.Steps as Steps;
 ghost use Rattle.tracing.specs.Stands.{Outputs, Columns, Sound, Prints, Ready, Opens, Moves, step_of, Does};
 
 use bits::Bits;
-use compiler::Compiled;
 pub use feeding::{feed, serve, traced};
 use interpreter::Program;
-use sheet::Counts;
-use texts::Source;
+use sets::Both;
+use sheet::{Counts, Row};
+use texts::{Page, Source};
 use verdicts::Reaction;
 
 // "a sheet in hex (up to 2,048 digits)"
@@ -33,77 +33,40 @@ const SHEET_ROOM: usize = SHEET_DIGITS / 2;
 // One byte more than the longest line that is well-formed: a line that is cut there is malformed all the same.
 pub const LINE_ROOM: usize = SHEET_DIGITS + 1;
 
-// What is awaited: the sheet's line, an event's, or nothing more.
-#[derive(Clone, Copy)]
-pub enum Awaited {
-    Sheet,
-    Event,
-    Nothing,
-}
-
-// What is awaited and, once a sheet was accepted, the program that was made ready of it, its outputs, the state and the instants counted. The program's rows and
-// static sets stand beside it, in lent columns.
-#[derive(Clone, Copy)]
-pub struct Trace {
-    pub awaited: Awaited,
+// A program that was made ready of an accepted sheet, its outputs, the state and the instants counted. The program's rows and static sets stand beside it, in
+// lent columns.
+#[derive(Clone, Copy, Debug, PartialEq, Eq)]
+pub struct Running {
     pub program: Program,
     pub outputs: Bits,
     pub state: Bits,
     pub instants: u64,
 }
 
-// The state after a line, and the place past the text that it prints.
-#[derive(Clone, Copy)]
-pub struct After {
-    pub trace: Trace,
-    pub end: usize,
+// What is awaited: the sheet's line; an event's, of a program that runs; or nothing more.
+#[derive(Clone, Copy, Debug, PartialEq, Eq)]
+pub enum Trace {
+    Sheet,
+    Event(Running),
+    Nothing,
 }
 
-// The state after the lines of the bytes at hand, these bytes as they are left, the length of the text that the lines print, and whether to go on.
-#[derive(Clone, Copy)]
+// A trace, and the bytes that its lines are taken from.
+#[derive(Clone, Copy, Debug, PartialEq, Eq)]
 pub struct Fed {
     pub trace: Trace,
     pub source: Source,
-    pub len: usize,
-    pub more: bool,
-}
-
-// A trace that runs nothing.
-fn awaiting(awaited: Awaited) -> Trace
-    ensures { result.awaited ≡ awaited }
-{
-    Trace {
-        awaited,
-        program: Program {
-            counts: Counts {
-                inputs: 0,
-                outputs: 0,
-                statements: 0,
-                halts: 0,
-                signals: 0,
-            },
-            cells: 0,
-            asks: Bits::empty(),
-        },
-        outputs: Bits::empty(),
-        state: Bits::empty(),
-        instants: 0,
-    }
 }
 
 // "Signal 0 is tick, then I inputs, O outputs": the outputs, 1+I to I+O, as far as a set has bits for them.
 fn outputs_of(inputs: u16, outputs: u16) -> Bits
     ensures { Outputs inputs outputs (whole result) }
 {
-    let past = 1 + inputs as u32 + outputs as u32;
+    let first = 1 + u32::from(inputs);
+    let past = first + u32::from(outputs);
     let mut set = Bits::empty();
-    let mut s = 1 + inputs as u32;
-    while s < past {
-        if bits::WIDTH <= s {
-            return set;
-        }
+    for s in first..past.min(bits::WIDTH) {
         set = set.add(s);
-        s += 1;
     }
     set
 }
@@ -115,38 +78,25 @@ fn outputs_in(signals: Bits, outputs: Bits) -> Bits
     signals.meet(outputs)
 }
 
-// One instant more. A word can count all the lines that are ever read.
-fn counted(instants: u64) -> u64
-    ensures { result ≡ Steps.counted instants }
+fn bad_line(page: &mut Page) -> Trace
+    ensures { Prints Trace.Nothing bad_text result page.old page.new }
 {
-    if instants == u64::MAX {
-        return instants;
-    }
-    instants + 1
+    page.bytes(b"bad line\n");
+    Trace::Nothing
 }
 
-fn bad_line(out: &mut [u8], at: usize) -> After
-    ensures { Prints Awaited.Nothing bad_text at result out.old out.new }
+fn refused_line(number: u8, place: usize, page: &mut Page)
+    ensures { Writes (refused_text number place) page.old page.new }
 {
-    After {
-        trace: awaiting(Awaited::Nothing),
-        end: texts::put_bytes(out, at, b"bad line\n"),
-    }
+    text::word_line(page, b"no ", number as u64, place as u64);
 }
 
-fn refused_line(number: u8, place: usize, out: &mut [u8], at: usize) -> usize
-    ensures { Puts (refused_text number place) at result out.old out.new }
-{
-    text::word_line(out, at, b"no ", number as u64, place as u64)
-}
-
-// The trace of a sheet that was compiled into the rows: it is made ready, once for all events.
-fn ready(rows: &[u64], c: Counts, n: u16) -> Trace
+// A sheet was compiled into the rows: the program is made ready, once for all events.
+fn ready(rows: &[Row], c: Counts, n: u16) -> Running
     requires { Runnable rows.now root }
     ensures { Ready rows.now c n result }
 {
-    Trace {
-        awaited: Awaited::Event,
+    Running {
         program: interpreter::prepare(rows, c, n),
         outputs: outputs_of(c.inputs, c.outputs),
         state: Bits::empty(),
@@ -155,121 +105,90 @@ fn ready(rows: &[u64], c: Counts, n: u16) -> Trace
 }
 
 // A sheet: refused, or compiled and made ready.
-fn open_sheet(s: &[u8], rows: &mut [u64], statics: &mut [u64], out: &mut [u8], at: usize) -> After
+fn open_sheet(s: &[u8], rows: &mut [Row], statics: &mut [Both], page: &mut Page) -> Trace
     requires { Columns rows.old statics.old }
-    ensures { Opens s.now at result rows.new statics.new out.old out.new }
+    ensures { Opens s.now result rows.new statics.new page.old page.new }
 {
     let mut cells = [0u64; limits::MAX_CELLS];
     match compiler::compile(s, rows, statics, &mut cells) {
-        Compiled::Refused(f) => {
+        Err(f) => {
             let no = verdicts::refusal(f);
-            After {
-                trace: awaiting(Awaited::Nothing),
-                end: refused_line(no.number, no.place, out, at),
-            }
+            refused_line(no.number, no.place, page);
+            Trace::Nothing
         }
-        Compiled::Program(c, n) => After {
-            trace: ready(rows, c, n),
-            end: text::word_line(out, at, b"ok ", c.statements as u64, n as u64),
-        },
+        Ok((c, n)) => {
+            text::word_line(page, b"ok ", c.statements as u64, n as u64);
+            Trace::Event(ready(rows, c, n))
+        }
     }
 }
 
 // The sheet's line.
-fn first_line(
-    trace: Trace,
-    rows: &mut [u64],
-    statics: &mut [u64],
-    line: &[u8],
-    out: &mut [u8],
-    at: usize,
-) -> After
-    requires { Columns rows.old statics.old × (trace.awaited ≡ Awaited.Sheet) }
-    ensures { Does (step_of line.now) trace at result rows.old rows.new statics.old statics.new
-        out.old out.new }
+fn first_line(rows: &mut [Row], statics: &mut [Both], line: &[u8], page: &mut Page) -> Trace
+    requires { Columns rows.old statics.old }
+    ensures { Does (step_of line.now) Trace.Sheet result rows.old rows.new statics.old statics.new
+        page.old page.new }
 {
     if line.len() > SHEET_DIGITS {
-        return bad_line(out, at);
+        return bad_line(page);
     }
     let mut bytes = [0u8; SHEET_ROOM];
-    let hex = texts::hex_bytes(line, &mut bytes);
-    if !hex.good {
-        return bad_line(out, at);
-    }
-    let n = hex.len;
-    open_sheet(&bytes[..n], rows, statics, out, at)
+    let Some(n) = texts::hex_bytes(line, &mut bytes) else {
+        return bad_line(page);
+    };
+    open_sheet(&bytes[..n], rows, statics, page)
 }
 
-// An instant was accepted.
-fn instant(trace: Trace, r: Reaction, out: &mut [u8], at: usize) -> After
-    ensures { Moves trace r at result out.old out.new }
+// An instant was accepted. A word can count all the lines that are ever read.
+fn instant(k: Running, r: Reaction, page: &mut Page) -> Trace
+    ensures { Moves k r result page.old page.new }
 {
-    let instants = counted(trace.instants);
-    let program = trace.program;
-    let outputs = trace.outputs;
-    let state = r.state;
-    let signals = r.signals;
-    let shown = outputs_in(signals, outputs);
-    let end = text::instant_line(out, at, instants, shown, state, sheet_entries::rest(state));
-    After {
-        trace: Trace {
-            awaited: Awaited::Event,
-            program,
-            outputs,
-            state,
-            instants,
-        },
-        end,
-    }
+    let instants = k.instants.saturating_add(1);
+    let shown = outputs_in(r.signals, k.outputs);
+    text::instant_line(page, instants, shown, r.state, sheet_entries::rest(r.state));
+    Trace::Event(Running {
+        state: r.state,
+        instants,
+        ..k
+    })
 }
 
 // An event's line: a reaction of the program that was made ready.
-fn event_line(
-    trace: Trace,
-    rows: &[u64],
-    statics: &[u64],
-    line: &[u8],
-    out: &mut [u8],
-    at: usize,
-) -> After
-    requires { Prepared trace.program rows.now statics.now × Fitted rows.now (whole trace.state) true × (trace.awaited ≡ Awaited.Event) }
-    ensures { Does (step_of line.now) trace at result rows.now rows.now statics.now statics.now
-        out.old out.new }
+fn event_line(k: Running, rows: &[Row], statics: &[Both], line: &[u8], page: &mut Page) -> Trace
+    requires { Prepared k.program rows.now statics.now × Fitted rows.now (whole k.state) true }
+    ensures { Does (step_of line.now) (Trace.Event k) result rows.now rows.now statics.now statics.now
+        page.old page.new }
 {
-    let read = texts::set_value(line);
-    if !read.good {
-        return bad_line(out, at);
-    }
-    let program = trace.program;
-    let state = trace.state;
-    let event = read.set;
-    let r = interpreter::react(program, rows, statics, state, event);
+    let Some(event) = texts::set_value(line) else {
+        return bad_line(page);
+    };
+    let r = interpreter::react(k.program, rows, statics, k.state, event);
     if r.number > 0 {
-        return After {
-            trace,
-            end: refused_line(r.number, r.place, out, at),
-        };
+        refused_line(r.number, r.place, page);
+        return Trace::Event(k);
     }
-    instant(trace, r, out, at)
+    instant(k, r, page)
 }
 
 // One line's step. The columns have room for the longest sheet.
 pub fn step(
     trace: Trace,
-    rows: &mut [u64],
-    statics: &mut [u64],
+    rows: &mut [Row],
+    statics: &mut [Both],
     line: &[u8],
-    out: &mut [u8],
-    at: usize,
-) -> After
+    page: &mut Page,
+) -> Trace
     requires { Columns rows.old statics.old × Sound trace rows.old statics.old }
-    ensures { Does (step_of line.now) trace at result rows.old rows.new statics.old statics.new
-        out.old out.new }
+    ensures { Does (step_of line.now) trace result rows.old rows.new statics.old statics.new
+        page.old page.new }
 {
-    let awaited = trace.awaited;
-    match awaited {
-        Awaited::Sheet => first_line(trace, rows, statics, line, out, at),
-        Awaited::Event => event_line(trace, rows, statics, line, out, at),
-        Awaited::Nothing => After { trace, end: at },
+    match trace {
+        Trace::Sheet => first_line(rows, statics, line, page),
+        Trace::Event(k) => event_line(k, rows, statics, line, page),
+        Trace::Nothing => {
+            // Nothing is printed.
+            page.bytes(b"");
+            trace
+        }
     }
 }

@@ -18,21 +18,23 @@ use Rattle.run.proofs.Going.{SameSteps}
 use Rattle.verdicts.specs.declared.Answer.{Answer}
 use Rattle.verdicts.specs.declared.Course.{Course}
 use Rattle.verdicts.specs.declared.Reaction.{Reaction}
-use Rattle.verdicts.specs.declared.Stop.TheVariants.{Nothing, By}
 use Rattle.verdicts.specs.Answers.{Verdict, passes, stops, verdict, answer_of, refusal, buffer_after, with_state, reaction_of, stop_of}
 use Rattle.verdicts.specs.Runs.{Asked, Told, needed, has_room, state_after, Runs, Once}
+use Rattle.verdicts.specs.Once.{Run, RanOnce}
+use denote.Ref.{Bor, MutBor}
+use Rattle.std.specs.Prelude.{Ok, Err}
 
 -- two constructors are never equal
 never : {A : Type 0} → ◌≡◌ {A = ℕ} 0 1 → A
 never e = absurd (omega arith)
 
 -- what stops a run, as the code has it
-pub stop_by : (v : Verdict) {f : Fault} → By f ≡ stop_of v → v ≡ stops f
+pub stop_by : (v : Verdict) {f : Fault} → Err f ≡ stop_of v → v ≡ stops f
 unfolding stop_of
 stop_by passes e = never (cc)
 stop_by (stops g) e = cc
 
-pub stop_none : (v : Verdict) → Nothing ≡ stop_of v → v ≡ passes
+pub stop_none : (v : Verdict) → Ok tt ≡ stop_of v → v ≡ passes
 unfolding stop_of
 stop_none passes e = refl
 stop_none (stops g) e = never (cc)
@@ -119,17 +121,25 @@ all_laid l xs e =
     let none : drop (0 + length xs) l ≡ [] = drop_of_length-le l {i = 0 + length xs} (omega (arith, e)) in
     sets-eq xs l 0 (omega (arith, e)) ∙ ap (λ (r : List ℕ). xs ++ r) none ∙ append-nil xs
 
--- what a run over one event leaves is a reaction
-pub once_of : (many : Asked → Told → Type 0) {state event : ℕ} {c : Course} {events signals states : List ℕ} {first : ℕ}
-    → events ≡ sets (replicate words 0) (0 * words) (words_of words event)
-    → many (record { state = state; events = events; signals = replicate words 0; states = replicate words 0 })
-    (record { course = c; signals = signals; states = states })
-    → first ≡ whole_in (take words (drop (0 * words) signals)) → {r : Reaction} → r ≡ reaction_of c first → Once many state event r
-once_of many {state} {event} {c} {events} {signals} {states} written ran read is =
-    let alone : events ≡ words_of words event =
-    written ∙ all_laid (replicate words 0) (words_of words event) (length-replicate {A = ℕ} words 0 ∙ sym (words_of_long words event)) in
+-- What is written as the event, and what is lent for the rest, are a run over one event.
+pub event_alone : (event : ℕ) {events : List ℕ} → events ≡ sets (replicate words 0) (0 * words) (words_of words event)
+    → events ≡ words_of words event
+event_alone event written =
+    written ∙ all_laid (replicate words 0) (words_of words event) (length-replicate {A = ℕ} words 0 ∙ sym (words_of_long words event))
+
+pub nothing_lent : replicate words 0 ≡ words_of words 0
+nothing_lent = sym (zeros words)
+
+-- A reaction is what a run answers that was called with one event.
+pub once_of : {F : Type 0} {g : Run F} {run : F} (many : Asked → Told → Type 0) {state event : ℕ} {r : Reaction} → RanOnce g run event r
+    → ((events : Bor (List ℕ)) (signals states signals' states' : MutBor (List ℕ)) (course : Course)
+    → g.post run (events, (signals, (states, tt))) (course, (signals', (states', tt)))
+    → many (record { state = state; events = events.now; signals = signals.now; states = states.now })
+    (record { course = course; signals = signals'.now; states = states'.now }))
+    → Once many state event r
+once_of many {state} {event} o says =
     record {
-      told = record { course = c; signals = signals; states = states };
-      ran = rw (zeros words, sym alone) ran;
-      is = is ∙ ap (reaction_of c) read;
+      told = record { course = o.course; signals = o.signals_left.now; states = o.states_left.now };
+      ran = rw (o.one_event, o.no_signals, o.no_states) at (says o.events o.signals o.states o.signals_left o.states_left o.course o.ran);
+      is = o.is;
     }

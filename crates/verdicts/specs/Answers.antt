@@ -1,5 +1,5 @@
 -- "Numbers returned": the answers of the public entries.
-use Rattle.std.specs.Prelude.{Bool, List, ℕ}
+use Rattle.std.specs.Prelude.{Bool, List, ℕ, Result, Ok, Err}
 use Rattle.std.proofs.lemmas.List.Edits.{sets}
 use Rattle.number.specs.declared.Fault.{Fault}
 use Rattle.number.specs.declared.Refusal.TheVariants.{Event, State, Buffer}
@@ -10,8 +10,6 @@ use Rattle.verdicts.specs.declared.Answer.{Answer}
 use Rattle.verdicts.specs.declared.Course.{Course}
 use Rattle.verdicts.specs.declared.Listing.{Listing}
 use Rattle.verdicts.specs.declared.Reaction.{Reaction}
-use Rattle.verdicts.specs.declared.Stop.{Stop}
-use Rattle.verdicts.specs.declared.Stop.TheVariants.{Nothing, By}
 
 -- a fault that answers, or none
 pub data Verdict : Type 0 where
@@ -67,6 +65,6 @@ reaction_of c signals =
     }
 
 -- the fault that stops a run, or none
-unfoldable pub stop_of : Verdict → Stop
-stop_of passes = Nothing
-stop_of (stops f) = By f
+unfoldable pub stop_of : Verdict → Result (Unit {0}) Fault
+stop_of passes = Ok tt
+stop_of (stops f) = Err f

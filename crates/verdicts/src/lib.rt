@@ -5,12 +5,17 @@ ghost use Rattle.std.specs.Prelude.{◌≡◌, ◌&&◌, ◌*◌, ◌/◌, leb, 
 ghost use Rattle.bits.specs.Bits.{words, whole};
 ghost use Rattle.verdicts.specs.Answers as Answers;
 
+mod once;
+
 use bits::Bits;
 use number::{Fault, Refusal};
+pub use once::run_once;
+
+// The answers below go to C as they are, so that number and place, and what else two of them have in common, stand flat in each.
 
 // The number, 0 for acceptance, its place, and the counts of statements and cells.
 #[repr(C)]
-#[derive(Clone, Copy)]
+#[derive(Clone, Copy, Debug, PartialEq, Eq)]
 pub struct Answer {
     pub number: u8,
     pub place: usize,
@@ -20,7 +25,7 @@ pub struct Answer {
 
 // An answer with the signals that a reaction gives, signal s at bit s, and the next state.
 #[repr(C)]
-#[derive(Clone, Copy)]
+#[derive(Clone, Copy, Debug, PartialEq, Eq)]
 pub struct Reaction {
     pub number: u8,
     pub place: usize,
@@ -32,7 +37,7 @@ pub struct Reaction {
 
 // An answer with the numbers of inputs and outputs, both 0 on a refusal, of a netlist whose cells were handed out.
 #[repr(C)]
-#[derive(Clone, Copy)]
+#[derive(Clone, Copy, Debug, PartialEq, Eq)]
 pub struct Listing {
     pub number: u8,
     pub place: usize,
@@ -44,7 +49,7 @@ pub struct Listing {
 
 // What reading alone answers.
 #[repr(C)]
-#[derive(Clone, Copy)]
+#[derive(Clone, Copy, Debug, PartialEq, Eq)]
 pub struct Reading {
     pub number: u8,
     pub place: usize,
@@ -55,7 +60,7 @@ pub struct Reading {
 
 // The answer to a run over events, with the state after the last of them; a refusal has the state handed in.
 #[repr(C)]
-#[derive(Clone, Copy)]
+#[derive(Clone, Copy, Debug, PartialEq, Eq)]
 pub struct Course {
     pub number: u8,
     pub place: usize,
@@ -64,20 +69,12 @@ pub struct Course {
     pub state: Bits,
 }
 
-// What stops a run over events.
-#[derive(Clone, Copy)]
-pub enum Stop {
-    Nothing,
-    By(Fault),
-}
-
 // A fault in the paper's numbers, with counts 0.
 pub fn refusal(f: Fault) -> Answer
     ensures { result ≡ Answers.refusal f }
 {
-    let refusal = f.refusal;
     Answer {
-        number: number::refusal_no(refusal),
+        number: u8::from(f.refusal),
         place: f.place,
         statements: 0,
         cells: 0,
@@ -139,28 +136,20 @@ pub fn with_state(a: Answer, state: Bits) -> Course
 }
 
 // EVENT, STATE, BUFFER, in this order, of what the checks say; `needed` is the length that the lent slices need.
-pub fn first_fault(events: bool, state: bool, room: bool, needed: usize) -> Stop
+#[tactic(auto, unfolding(crate::specs::Answers::stop_of, crate::specs::Answers::verdict, number::specs::Number::pick))]
+pub fn first_fault(events: bool, state: bool, room: bool, needed: usize) -> Result<(), Fault>
     ensures { result ≡ Answers.stop_of (Answers.verdict Answers.passes events state room needed) }
 {
     if !events {
-        return Stop::By(Fault {
-            refusal: Refusal::Event,
-            place: 0,
-        });
+        return Err(Refusal::Event.at(0));
     }
     if !state {
-        return Stop::By(Fault {
-            refusal: Refusal::State,
-            place: 0,
-        });
+        return Err(Refusal::State.at(0));
     }
     if !room {
-        return Stop::By(Fault {
-            refusal: Refusal::Buffer,
-            place: needed,
-        });
+        return Err(Refusal::Buffer.at(needed));
     }
-    Stop::Nothing
+    Ok(())
 }
 
 // The length that the lent slices need: an entry for each event.
@@ -174,8 +163,5 @@ pub fn needed(events: &[u64]) -> usize
 pub fn has_room(needed: usize, signals: usize, states: usize) -> bool
     ensures { result ≡ (leb needed signals && leb needed states) }
 {
-    if needed <= signals {
-        return needed <= states;
-    }
-    false
+    needed <= signals && needed <= states
 }

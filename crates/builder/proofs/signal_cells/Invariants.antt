@@ -1,4 +1,4 @@
-use Prim.Native.Nat.{◌-◌, ◌≤◌}
+use Prim.Native.Nat.{◌≤◌}
 use mathlib.Core.Path.{◌≡◌}
 use lib.ListN.{length}
 use Rattle.limits.specs.Limits.{max_signals}
@@ -8,6 +8,3 @@ use Rattle.builder.proofs.signal_cells.Given as goal
 
 abbrev pub invariant-loop-s : goal.invariant-loop-s
 invariant-loop-s l = SignalLoop (nets l.lists) l.initial.cells l.cells l.from l.end l.s × (l.end ≤ max_signals) × (length l.lists ≡ max_signals)
-
-abbrev pub decreases-loop-s : goal.decreases-loop-s
-decreases-loop-s l = l.end - l.s

@@ -6,11 +6,13 @@ use Rattle.number.specs.Number.{pick}
 use Rattle.cells.specs.Words.{cell_in}
 use Rattle.cells.proofs.cell_at.Goals as goal
 
-pub returns-then-cells-at : goal.returns-then-cells-at
-unfolding cell_in pick
-returns-then-cells-at c =
-    let args = c.args in
-    rw (get_or-eq_default args.cells.now 0 {n = of_cell args.n} (omega (arith, c.number-at.ensures)))
+pub returns-in-Some : goal.returns-in-Some
+returns-in-Some c =
+    let read = c.in-Some.ensures.lookup in
+    rw (← c.number.ensures, ← (read.3.1 0)) c.cell_in.ensures
 
-pub returns : goal.returns
-returns c = rw (← c.number-at.ensures) c.cell_in.ensures
+pub returns-in-None : goal.returns-in-None
+unfolding cell_in pick
+returns-in-None c =
+    let args = c.args in
+    rw (get_or-eq_default args.cells.now 0 {n = of_cell args.n} (omega (arith, c.number.ensures, c.in-None.ensures.lookup.3)))

@@ -10,15 +10,15 @@ judged-requires c =
     let I = c.args.inputs in
     let O = c.args.outputs in
     let words = c.args.words.now in
-    let did = rw c.in-Read.is at c.check_cells.ensures in
+    let did = rw c.in-Ok.is at c.check_cells.ensures in
     (words_formed I O words did, (_, cells_ordered I O words did), words_count I O words did)
 
-pub returns-in-Refused : goal.returns-in-Refused
-returns-in-Refused c =
-    let was = net_refused c.check_cells.ensures c.in-Refused.is in
+pub returns-in-Err : goal.returns-in-Err
+returns-in-Err c =
+    let was = net_refused c.check_cells.ensures c.in-Err.is in
     rw c.refusal.ensures (cover_refused {found = judge_cells _ _ _} was)
 
-pub returns-in-Read : goal.returns-in-Read
-returns-in-Read c =
-    let did = rw c.in-Read.is at c.check_cells.ensures in
+pub returns-in-Ok : goal.returns-in-Ok
+returns-in-Ok c =
+    let did = rw c.in-Ok.is at c.check_cells.ensures in
     cover_words_checked c.args.inputs c.args.outputs c.args.words.now did c.judged.ensures

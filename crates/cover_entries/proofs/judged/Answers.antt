@@ -21,11 +21,11 @@ pub overflow_cast-h : goal.overflow_cast-h
 overflow_cast-h c =
     omega (arith, c.requires.0.few, cells_length c.args.cells.now, c.requires.2)
 
-pub returns-in-Right : goal.returns-in-Right
-returns-in-Right c =
-    let right = rw c.in-Right.is at c.check.ensures in
+pub returns-in-Ok : goal.returns-in-Ok
+returns-in-Ok c =
+    let right = rw c.in-Ok.is at c.check.ensures in
     rw c.acceptance.ensures (is_right c.args.cells.now c.requires.2 right)
 
-pub returns-in-Wrong : goal.returns-in-Wrong
-returns-in-Wrong c =
-    rw c.refusal.ensures (is_wrong c.args.cells.now (rw c.in-Wrong.is at c.check.ensures))
+pub returns-in-Err : goal.returns-in-Err
+returns-in-Err c =
+    rw (c.refusal.ensures, c.at.ensures) (is_wrong c.args.cells.now (rw c.in-Err.is at c.check.ensures))

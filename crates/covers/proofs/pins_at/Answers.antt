@@ -1,16 +1,7 @@
--- `pins_at` meets its contract: with each turn one pin more is read.
-use mathlib.Core.Path.{refl}
-use native.Mathlib.Omega.{arith}
-use Rattle.covers.proofs.Reading.{pins_more, pins_all}
+-- `pins_at` meets its contract: the closure reads one number, and stays as it is.
 use borrow.Author.Rules.{rules}
+use Rattle.covers.proofs.Reading.{pins_made}
 use Rattle.covers.proofs.pins_at.Goals as goal
 
-pub loop-p-init : goal.loop-p-init
-loop-p-init c = record { few = omega arith; long = search rules; so_far = refl }
-
-pub loop-p-preserved : goal.loop-p-preserved
-loop-p-preserved c =
-    pins_more _ c.loop-p-test.true c.new.ensures c.loop-p.invariant
-
 pub returns : goal.returns
-returns c = pins_all (omega (arith, c.loop-p-test.false)) c.loop-p.invariant
+returns c = pins_made _ _ c.args.cover.now c.args.at c.from_fn.result c.from_fn.ensures.items (λ p x q k. search rules)

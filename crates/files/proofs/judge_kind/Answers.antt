@@ -1,7 +1,7 @@
 -- The tests are those of the definition, in its order.
 use Rattle.files.specs.Judge.{judge_kind}
-use mathlib.Core.Path.{sym, ◌∙◌}
 use Rattle.number.specs.Number.{pick}
+use mathlib.Core.Path.{sym}
 use borrow.Author.Tests.{lt-ltb, le-ltb}
 use Rattle.files.proofs.judge_kind.Goals as goal
 
@@ -11,18 +11,12 @@ returns-then-highest-k c = simp (lt-ltb _ _ c.if-highest-k.true)
 
 pub returns-then-one_too_many : goal.returns-then-one_too_many
 unfolding judge_kind pick
-returns-then-one_too_many c = simp (le-ltb _ _ c.if-highest-k.false, sym c.one_too_many.ensures ∙ c.if-one_too_many.true)
+returns-then-one_too_many c = simp (le-ltb _ _ c.if-highest-k.false, sym c.if-one_too_many.ensures)
 
 pub returns-then-kind_fits : goal.returns-then-kind_fits
 unfolding judge_kind pick
-returns-then-kind_fits c =
-    let room = sym c.one_too_many.ensures ∙ c.if-one_too_many.false in
-    let fits = sym c.kind_fits.ensures ∙ c.if-kind_fits.true in
-    simp (le-ltb _ _ c.if-highest-k.false, room, fits)
+returns-then-kind_fits c = simp (le-ltb _ _ c.if-highest-k.false, sym c.if-one_too_many.ensures, sym c.if-kind_fits.ensures)
 
-pub returns : goal.returns
+pub returns-else-kind_fits : goal.returns-else-kind_fits
 unfolding judge_kind pick
-returns c =
-    let room = sym c.one_too_many.ensures ∙ c.if-one_too_many.false in
-    let differs = sym c.kind_fits.ensures ∙ c.if-kind_fits.false in
-    simp (le-ltb _ _ c.if-highest-k.false, room, differs)
+returns-else-kind_fits c = simp (le-ltb _ _ c.if-highest-k.false, sym c.if-one_too_many.ensures, sym c.if-kind_fits.ensures)

@@ -1,9 +1,5 @@
 use Rattle.files.proofs.Reading.{Reading}
-use Prim.Native.Nat.{◌-◌}
 use Rattle.files.proofs.read_cells.Given as goal
 
 abbrev pub invariant-loop-n : goal.invariant-loop-n
 invariant-loop-n l = Reading l.s l.h.inputs l.h.cells l.start l.initial.cells l.n l.registers l.at l.cells
-
-abbrev pub decreases-loop-n : goal.decreases-loop-n
-decreases-loop-n l = l.h.cells - l.n

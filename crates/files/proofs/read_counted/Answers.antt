@@ -1,34 +1,21 @@
 -- The count is read and judged; then the cells.
-use Rattle.files.proofs.Judging.{count_right}
+use Rattle.files.proofs.Judging.{handed_on, count_right}
 use Rattle.files.proofs.Whole.{file_stop}
 use Rattle.files.specs.Read.{count_at, after_count, counted}
-use mathlib.Core.Path.{sym, ◌∙◌}
+use mathlib.Core.Path.{sym}
 use Rattle.files.proofs.read_counted.Goals as goal
 
-pub fault_of-requires : goal.fault_of-requires
-fault_of-requires c = rw c.in_default.is tt
-
-pub returns-in_default : goal.returns-in_default
+pub returns-in_err-m : goal.returns-in_err-m
 unfolding count_at after_count
-returns-in_default c =
-    let number = sym c.read_number-a.ensures ∙ c.fault_of.ensures in
-    file_stop (simp number)
+returns-in_err-m c = rw (handed_on c.from_residual.ensures.1) (file_stop (rw (← c.in_err-m.ensures)))
+
+pub returns-in-Err : goal.returns-in-Err
+unfolding count_at after_count counted
+returns-in-Err c = file_stop (rw (← c.in_ok-m.ensures, ← c.in-Err.ensures, c.at.ensures))
 
 pub read_body-requires : goal.read_body-requires
-read_body-requires c =
-    let count = sym c.judge_count.ensures ∙ c.in-Right.is in
-    (count_right _ _ _ count).few
+read_body-requires c = (count_right _ _ _ (sym c.in_default.ensures)).few
 
-pub returns-in-Wrong : goal.returns-in-Wrong
+pub returns : goal.returns
 unfolding count_at after_count counted
-returns-in-Wrong c =
-    let number = sym c.read_number-a.ensures ∙ c.in-Value.is in
-    let count = sym c.judge_count.ensures ∙ c.in-Wrong.is in
-    rw c.refused.ensures (file_stop (simp (number, count)))
-
-pub returns-in-Right : goal.returns-in-Right
-unfolding count_at after_count counted
-returns-in-Right c =
-    let number = sym c.read_number-a.ensures ∙ c.in-Value.is in
-    let count = sym c.judge_count.ensures ∙ c.in-Right.is in
-    simp (number, count) c.read_body.ensures
+returns c = rw (← c.in_ok-m.ensures, ← c.in_default.ensures) c.read_body.ensures

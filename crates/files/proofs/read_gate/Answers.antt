@@ -1,16 +1,12 @@
--- The operands are a pair, or refused.
+-- The operands are cells, or the first that is none is refused.
 use Rattle.files.specs.Read.{gate_of}
-use mathlib.Core.Path.{sym, ◌∙◌}
+use Rattle.files.proofs.Judging.{handed_on}
 use Rattle.files.proofs.read_gate.Goals as goal
 
-pub returns-in-Refused : goal.returns-in-Refused
+pub returns-in_err-x : goal.returns-in_err-x
 unfolding gate_of
-returns-in-Refused c =
-    let pair = sym c.read_pair.ensures ∙ c.in-Refused.is in
-    simp pair
+returns-in_err-x c = rw (handed_on c.from_residual.ensures.1, ← c.in_err-x.ensures)
 
-pub returns-in-Pair : goal.returns-in-Pair
+pub returns : goal.returns
 unfolding gate_of
-returns-in-Pair c =
-    let pair = sym c.read_pair.ensures ∙ c.in-Pair.is in
-    simp pair
+returns c = rw (← c.in_ok-x.ensures)

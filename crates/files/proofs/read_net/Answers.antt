@@ -1,32 +1,25 @@
 -- The number decides: none, then its fault; one below m is a cell; any other is CELL.
 use Rattle.files.specs.Read.{net_of}
+use Rattle.files.proofs.Judging.{handed_on}
 use Rattle.number.proofs.Laws.{value_small}
+use Rattle.number.specs.Number.{pick}
 use Prim.Native.Nat.{◌%◌}
 use native.Mathlib.Omega.{arith}
-use mathlib.Core.Path.{◌≡◌, sym, ◌∙◌}
-use Rattle.number.specs.Number.{pick}
+use mathlib.Core.Path.{◌≡◌, sym}
 use borrow.Author.Tests.{lt-ltb, le-ltb}
 use Rattle.files.proofs.read_net.Goals as goal
 
-pub fault_of-requires : goal.fault_of-requires
-fault_of-requires c = rw c.in_default.is tt
-
-pub returns-in_default : goal.returns-in_default
+pub returns-in_err-v : goal.returns-in_err-v
 unfolding net_of
-returns-in_default c =
-    let number = sym c.read_number-r.ensures ∙ c.fault_of.ensures in
-    simp number
+returns-in_err-v c = rw (handed_on c.from_residual.ensures.1, ← c.in_err-v.ensures)
 
 pub returns-then-v-m : goal.returns-then-v-m
 unfolding net_of pick
 returns-then-v-m c =
-    let number = sym c.read_number-r.ensures ∙ c.in-Value.is in
-    let v = c.in-Value.v in
-    let whole : v % 65536 ≡ v = omega (arith, value_small _ _ number) in
-    simp (number, lt-ltb _ _ c.if-v-m.true, c.new.ensures, whole)
+    let v = c.in_ok-v.v in
+    let whole : v % 65536 ≡ v = omega (arith, value_small _ _ (sym c.in_ok-v.ensures)) in
+    simp (sym c.in_ok-v.ensures, lt-ltb _ _ c.if-v-m.true, c.new.ensures, whole)
 
 pub returns : goal.returns
 unfolding net_of pick
-returns c =
-    let number = sym c.read_number-r.ensures ∙ c.in-Value.is in
-    simp (number, le-ltb _ _ c.if-v-m.false)
+returns c = simp (sym c.in_ok-v.ensures, le-ltb _ _ c.if-v-m.false, c.at.ensures)

@@ -1,24 +1,16 @@
 -- What the first operand is, then what the second is.
 use Rattle.files.specs.Read.{pair_of, with_second}
-use mathlib.Core.Path.{sym, ◌∙◌}
+use Rattle.files.proofs.Judging.{handed_on}
 use Rattle.files.proofs.read_pair.Goals as goal
 
-pub returns-in-Refused : goal.returns-in-Refused
+pub returns-in_err-x : goal.returns-in_err-x
 unfolding pair_of
-returns-in-Refused c =
-    let first = sym c.read_net.ensures ∙ c.in-Refused.is in
-    simp first
+returns-in_err-x c = rw (handed_on c.from_residual.ensures.1, ← c.in_err-x.ensures)
 
-pub returns-in-Refused-read_net : goal.returns-in-Refused-read_net
+pub returns-in_err-y : goal.returns-in_err-y
 unfolding pair_of with_second
-returns-in-Refused-read_net c =
-    let first = sym c.read_net.ensures ∙ c.in-Net.is in
-    let second = sym c.read_net-in-Net.ensures ∙ c.in-Refused-read_net.is in
-    simp (first, second)
+returns-in_err-y c = rw (handed_on c.from_residual-in_err-y.ensures.1, ← c.in_ok-x.ensures, ← c.in_err-y.ensures)
 
-pub returns-in-Net-read_net : goal.returns-in-Net-read_net
+pub returns : goal.returns
 unfolding pair_of with_second
-returns-in-Net-read_net c =
-    let first = sym c.read_net.ensures ∙ c.in-Net.is in
-    let second = sym c.read_net-in-Net.ensures ∙ c.in-Net-read_net.is in
-    simp (first, second)
+returns c = rw (← c.in_ok-x.ensures, ← c.in_ok-y.ensures)

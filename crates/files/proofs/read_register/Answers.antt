@@ -1,16 +1,12 @@
 -- The operand is a cell, or refused.
 use Rattle.files.specs.Read.{register_of}
-use mathlib.Core.Path.{sym, ◌∙◌}
+use Rattle.files.proofs.Judging.{handed_on}
 use Rattle.files.proofs.read_register.Goals as goal
 
-pub returns-in-Refused : goal.returns-in-Refused
+pub returns-in_err-x : goal.returns-in_err-x
 unfolding register_of
-returns-in-Refused c =
-    let net = sym c.read_net.ensures ∙ c.in-Refused.is in
-    simp net
+returns-in_err-x c = rw (handed_on c.from_residual.ensures.1, ← c.in_err-x.ensures)
 
-pub returns-in-Net : goal.returns-in-Net
+pub returns : goal.returns
 unfolding register_of
-returns-in-Net c =
-    let net = sym c.read_net.ensures ∙ c.in-Net.is in
-    simp net
+returns c = rw (← c.in_ok-x.ensures)

@@ -23,26 +23,26 @@ loop-j-init c = followed_none _ _ _ _ _ _
 
 pub read-requires : goal.read-requires
 read-requires c =
-    omega (arith, c.count-n.ensures, c.loop-j-test.true)
+    omega (arith, c.count-j-end.ensures, c.loop-j-test.true)
 
 pub agreed-r-requires : goal.agreed-r-requires
 agreed-r-requires c =
-    let at = event_at c.args.events.now c.loop-j.j c.read.result c.count-n.ensures c.loop-j-test.true c.read.ensures in
+    let at = event_at c.args.events.now c.loop-j.j c.read.result c.count-j-end.ensures c.loop-j-test.true c.read.ensures in
     (followed_settling _ _ _ _ _ _ c.loop-j.invariant at.0 at.1 c.requires, may_tested c.requires)
 
 pub write-requires : goal.write-requires
 write-requires c =
     let pre = c.requires in
-    omega (arith, c.count-n.ensures, c.loop-j-test.true, pre.room.signals_long, emissions_long _ _ _ _ _ _ c.loop-j.invariant pre)
+    omega (arith, c.count-j-end.ensures, c.loop-j-test.true, pre.room.signals_long, emissions_long _ _ _ _ _ _ c.loop-j.invariant pre)
 
 pub write-requires-in-loop-j : goal.write-requires-in-loop-j
 write-requires-in-loop-j c =
     let pre = c.requires in
-    omega (arith, c.count-n.ensures, c.loop-j-test.true, pre.room.states_long, states_long _ _ _ _ _ _ c.loop-j.invariant pre)
+    omega (arith, c.count-j-end.ensures, c.loop-j-test.true, pre.room.states_long, states_long _ _ _ _ _ _ c.loop-j.invariant pre)
 
 pub loop-j-preserved : goal.loop-j-preserved
 loop-j-preserved c =
-    let at = event_at c.args.events.now c.loop-j.j c.read.result c.count-n.ensures c.loop-j-test.true c.read.ensures in
+    let at = event_at c.args.events.now c.loop-j.j c.read.result c.count-j-end.ensures c.loop-j-test.true c.read.ensures in
     let more = followed_next _ _ _ _ _ _ c.loop-j.invariant at.0 at.1 c.agreed-r.ensures c.next_state-last.ensures in
     rw (c.write.ensures, c.write-in-loop-j.ensures) more
 
@@ -56,4 +56,4 @@ shape_of-states c =
 
 pub returns : goal.returns
 returns c =
-    followed_all _ _ _ _ _ _ c.loop-j.invariant c.requires (omega (arith, c.count-n.ensures, c.loop-j-test.false))
+    followed_all _ _ _ _ _ _ c.loop-j.invariant c.requires (omega (arith, c.count-j-end.ensures, c.loop-j-test.false))

@@ -1,4 +1,3 @@
-use Prim.Native.Nat.{◌-◌}
 use Rattle.bits.specs.Bits.{whole}
 use Rattle.interpreter.proofs.Following.{Followed}
 use Rattle.interpreter.proofs.moments.Given as goal
@@ -6,6 +5,3 @@ use Rattle.interpreter.proofs.moments.Given as goal
 abbrev pub invariant-loop-j : goal.invariant-loop-j
 invariant-loop-j l =
     Followed l.rows (whole l.asks) (whole l.initial.last) l.events l.initial.emissions l.initial.states l.emissions l.states (whole l.last) l.j
-
-abbrev pub decreases-loop-j : goal.decreases-loop-j
-decreases-loop-j l = l.n - l.j

@@ -7,15 +7,15 @@ use Rattle.netlist_entries.proofs.check_file.Goals as goal
 
 pub overflow_cast-h : goal.overflow_cast-h
 overflow_cast-h c =
-    let did = rw c.in-Read.is at c.check_file.ensures in
+    let did = rw c.in-Ok.is at c.check_file.ensures in
     let few = file_few _ did (search rules) in
     omega (arith, few)
 
-pub returns-in-Refused : goal.returns-in-Refused
-returns-in-Refused c =
-    rw c.refusal.ensures (checked_refused (net_refused c.check_file.ensures.check c.in-Refused.is))
+pub returns-in-Err : goal.returns-in-Err
+returns-in-Err c =
+    rw c.refusal.ensures (checked_refused (net_refused c.check_file.ensures.check c.in-Err.is))
 
-pub returns-in-Read : goal.returns-in-Read
-returns-in-Read c =
-    let did = rw c.in-Read.is at c.check_file.ensures in
+pub returns-in-Ok : goal.returns-in-Ok
+returns-in-Ok c =
+    let did = rw c.in-Ok.is at c.check_file.ensures in
     rw c.acceptance.ensures (net_checked (accepts did.check))

@@ -11,8 +11,8 @@ pub number_registers-k-requires : goal.number_registers-k-requires
 number_registers-k-requires c =
     numberable c.requires (search rules) (search rules)
 
-pub slice_bounds-clocks-end-in-Nothing : goal.slice_bounds-clocks-end-in-Nothing
-slice_bounds-clocks-end-in-Nothing c =
+pub slice_bounds-ready-end-in-Ok : goal.slice_bounds-ready-end-in-Ok
+slice_bounds-ready-end-in-Ok c =
     sym (length-take-le _ _ (omega (arith, c.number_registers-k.ensures.count, c.requires.formed.bits, c.number_registers-k.auto)))
 
 pub clocks-last-requires : goal.clocks-last-requires
@@ -25,15 +25,15 @@ clocks-last-requires c = (
     length_asked = c.needed-needed.ensures;
     room_asked = c.has_room-room.ensures;
     stop = c.first_fault.ensures;
-  }) c.in-Nothing.is,
+  }) c.in-Ok.is,
 )
 
 pub overflow_cast-h : goal.overflow_cast-h
 overflow_cast-h c =
     omega (arith, counted_few c.requires)
 
-pub returns-in-By : goal.returns-in-By
-returns-in-By c =
+pub returns-in-Err : goal.returns-in-Err
+returns-in-Err c =
     rw (c.with_state.ensures, c.refusal.ensures) (net_stopped c.args.h.outputs c.args.cells.now (record {
       events_asked = c.events_ok-own.ensures;
       counted = c.number_registers-k.ensures.count;
@@ -41,16 +41,16 @@ returns-in-By c =
       length_asked = c.needed-needed.ensures;
       room_asked = c.has_room-room.ensures;
       stop = c.first_fault.ensures;
-    }) c.in-By.is)
+    }) c.in-Err.is)
 
-pub returns-in-Nothing : goal.returns-in-Nothing
-returns-in-Nothing c =
-    rw (c.with_state-in-Nothing.ensures, c.acceptance.ensures) (net_ran c.args.h.outputs c.args.cells.now (record {
+pub returns-in-Ok : goal.returns-in-Ok
+returns-in-Ok c =
+    rw (c.with_state-in-Ok.ensures, c.acceptance.ensures) (net_ran c.args.h.outputs c.args.cells.now (record {
       events_asked = c.events_ok-own.ensures;
       counted = c.number_registers-k.ensures.count;
       state_asked = c.state_ok-fit.ensures;
       length_asked = c.needed-needed.ensures;
       room_asked = c.has_room-room.ensures;
       stop = c.first_fault.ensures;
-    }) c.in-Nothing.is
+    }) c.in-Ok.is
     c.requires.counted c.clocks-last.ensures)

@@ -1,4 +1,5 @@
--- A run over one event: what was written as the event is its words, and the first set of the lent slice is what the run gave.
+-- A run over one event.
+use borrow.Author.Rules.{rules}
 use Rattle.files.specs.Read.{read_file}
 use Rattle.verdicts.proofs.Running.{once_of}
 use Rattle.netlist_entries.specs.Netlists.{NetReactedMany}
@@ -6,4 +7,4 @@ use Rattle.netlist_entries.proofs.react_file.Goals as goal
 
 pub returns : goal.returns
 returns c =
-    once_of (NetReactedMany (read_file _)) c.write.ensures c.react_file_many-c.ensures c.read.ensures c.reaction_of.ensures
+    once_of (NetReactedMany (read_file c.args.s.now)) c.run_once.ensures (λ events signals states signals' states' course h. search rules)

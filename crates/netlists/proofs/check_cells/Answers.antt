@@ -1,20 +1,19 @@
 -- The words were refused; or they are searched for an order.
-use mathlib.Core.Path.{sym, ◌∙◌}
-use Rattle.netlists.proofs.Checking.{check_stop, cells_orderable, cells_checked}
+use mathlib.Core.Path.{sym}
+use Rattle.files.proofs.Judging.{handed_on}
+use Rattle.netlists.proofs.Checking.{check_stop, cells_orderable, cells_cyclic, cells_in_order}
 use Rattle.netlists.proofs.check_cells.Goals as goal
 
+pub returns-in_err-h : goal.returns-in_err-h
+returns-in_err-h c = rw (handed_on c.from_residual.ensures.1) (check_stop (sym c.in_err-h.ensures))
+
 pub order_cells-requires : goal.order_cells-requires
-order_cells-requires c =
-    let a = c.args in
-    cells_orderable a.i a.o a.words.now c.judge_cells.ensures c.in-Read.is c.requires
+order_cells-requires c = cells_orderable _ _ _ c.judge_cells.ensures c.in_ok-h.was c.requires
 
-pub returns-in-Refused : goal.returns-in-Refused
-returns-in-Refused c =
-    check_stop (sym c.judge_cells.ensures ∙ c.in-Refused.is)
+pub returns-in_err-order_cells : goal.returns-in_err-order_cells
+returns-in_err-order_cells c =
+    rw (handed_on c.from_residual-in_err-order_cells.ensures.1)
+    (cells_cyclic _ _ _ c.judge_cells.ensures c.in_ok-h.was c.in_err-order_cells.ensures)
 
-pub returns-in-Read : goal.returns-in-Read
-returns-in-Read c =
-    let a = c.args in
-    let judged = c.judge_cells.ensures in
-    rw c.after_order.ensures
-    (cells_checked a.i a.o a.words.now judged c.in-Read.is c.order_cells.result c.order_cells.ensures)
+pub returns : goal.returns
+returns c = cells_in_order _ _ _ c.judge_cells.ensures c.in_ok-h.was c.in_ok-order_cells.ensures

@@ -1,10 +1,5 @@
 use Rattle.netlists.proofs.Words.{Judging}
-use lib.ListN.{length}
-use Prim.Native.Nat.{◌-◌}
 use Rattle.netlists.proofs.judge_words.Given as goal
 
 abbrev pub invariant-loop-n : goal.invariant-loop-n
 invariant-loop-n l = Judging l.h.inputs l.h.cells l.words l.n l.registers
-
-abbrev pub decreases-loop-n : goal.decreases-loop-n
-decreases-loop-n l = length l.words - l.n

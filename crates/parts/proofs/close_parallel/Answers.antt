@@ -6,6 +6,4 @@ use Rattle.parts.proofs.close_parallel.Goals as goal
 pub returns : goal.returns
 returns c =
     let a = c.args in
-    let filled = rw c.new.ensures at c.fill.ensures in
-    parallel_closes (has a.keep) (record { start = a.count; go = a.g; kill = a.kill }) a.p a.q
-    c.or-s.ensures c.parallel_row-h.ensures filled
+    parallel_closes (has a.keep) a.start a.w a.p a.q c.gate-sel.ensures c.parallel_row-h.ensures c.fill.ensures

@@ -6,5 +6,4 @@ pub returns : goal.returns
 returns c =
     let a = c.args in
     let reserved = rw c.low.ensures at c.push-h.ensures in
-    halt_builds a.lists.now a.g a.r a.kill reserved c.and-x.ensures c.or-v.ensures c.butnot-d.ensures
-    c.fill.ensures c.only.ensures
+    halt_builds a.lists.now a.w.go a.w.res a.w.kill reserved c.gate-x.ensures c.gate-v.ensures c.gate-d.ensures c.fill.ensures c.only.ensures

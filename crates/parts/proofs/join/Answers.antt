@@ -4,4 +4,5 @@ use Rattle.parts.proofs.join.Goals as goal
 
 pub returns : goal.returns
 returns c =
-    let a = c.args in joins a.p a.q a.a a.b c.or-s.ensures c.or_row-c.ensures
+    let a = c.args in
+    joins a.p.sel a.q.sel a.p.codes a.q.codes c.gate-sel.ensures c.or_row-codes.ensures

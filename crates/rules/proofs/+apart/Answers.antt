@@ -4,6 +4,9 @@ use Rattle.rules.proofs.Walks.{run_within, run_number, run_left, right_further}
 use Rattle.rules.proofs.Fitting.{known_one, known_left, known_right, apart_leaf, apart_one}
 use Rattle.rules.proofs.Fitting.{apart_unfit, apart_left_unfit, apart_rest}
 use Rattle.rules.proofs.+apart.Goals as goal
+use Rattle.rules.proofs.+apart.Goals.{then-parts_fit, else-parts_fit}
+use mathlib.Core.Path.{sym, ◌∙◌}
+use mathlib.Core.Bool.{false≢true}
 
 pub row_at-row-requires : goal.row_at-row-requires
 row_at-row-requires t c = run_within c.requires.run
@@ -33,27 +36,14 @@ parts_fit-requires t c =
     let known = c.requires in
     rw (c.first_part-first.ensures, c.second_part-second.ensures) (known_left known head, known_right known head)
 
-pub returns-then-not-parts_fit : goal.returns-then-not-parts_fit
-returns-then-not-parts_fit t c =
-    let head = rw c.row_at-row.ensures at c.in-Two.is in
-    let parts = rw (c.first_part-first.ensures, c.second_part-second.ensures) at c.parts_fit.ensures in
-    apart_unfit _ _ head parts c.if-not-parts_fit.true
-
-pub apart-requires-in-Two : goal.apart-requires-in-Two
-apart-requires-in-Two t c =
+pub apart-requires-then-parts_fit : goal.apart-requires-then-parts_fit
+apart-requires-then-parts_fit t c =
     let head = rw c.row_at-row.ensures at c.in-Two.is in
     let here = run_within c.requires.run in
     rw c.first_part-first.ensures (omega (arith, c.decreases, here), known_left c.requires head)
 
-pub returns-then-not-apart : goal.returns-then-not-apart
-returns-then-not-apart t c =
-    let head = rw c.row_at-row.ensures at c.in-Two.is in
-    let parts = rw (c.first_part-first.ensures, c.second_part-second.ensures) at c.parts_fit.ensures in
-    let unfit = c.if-not-apart.true in
-    apart_left_unfit _ _ head parts (rw (c.first_part-first.ensures, unfit) at c.apart-in-Two.ensures)
-
-pub apart-requires-in-Two-2 : goal.apart-requires-in-Two-2
-apart-requires-in-Two-2 t c =
+pub apart-requires-then-apart : goal.apart-requires-then-apart
+apart-requires-then-apart t c =
     let head = rw c.row_at-row.ensures at c.in-Two.is in
     let here = run_within c.requires.run in
     let further = right_further c.requires.run head in
@@ -67,11 +57,28 @@ returns-in-One t c =
     let head = rw c.row_at-row.ensures at c.in-One.is in
     apart_one _ _ _ head (rw c.first_part.ensures at c.apart.ensures)
 
-pub returns-else-not-apart : goal.returns-else-not-apart
-returns-else-not-apart t c =
+-- the parts fit, and so does what is kept apart in the first
+pub returns-then-apart : goal.returns-then-apart
+returns-then-apart t c =
     let head = rw c.row_at-row.ensures at c.in-Two.is in
     let parts = rw (c.first_part-first.ensures, c.second_part-second.ensures) at c.parts_fit.ensures in
-    let fit = c.if-not-apart.false in
-    let left = rw (c.first_part-first.ensures, fit) at c.apart-in-Two.ensures in
-    let right = rw c.second_part-second.ensures at c.apart-in-Two-2.ensures in
-    apart_rest _ _ head parts c.if-not-parts_fit.false left right
+    let right = rw c.second_part-second.ensures at c.apart-then-apart.ensures in
+    elim c.if-parts_fit.branch [
+      | then-parts_fit w ↦
+          let fit = sym w.value-is ∙ c.if-apart.true in
+          apart_rest _ _ head parts w.if-parts_fit.true (rw (c.first_part-first.ensures, fit) at w.apart-then-parts_fit.ensures) right
+      | else-parts_fit w ↦ absurd (false≢true (sym w.if-parts_fit.false ∙ sym w.value-is ∙ c.if-apart.true))
+    ]
+
+-- the first does not, or the parts do not
+pub returns-else-apart : goal.returns-else-apart
+returns-else-apart t c =
+    let head = rw c.row_at-row.ensures at c.in-Two.is in
+    let parts = rw (c.first_part-first.ensures, c.second_part-second.ensures) at c.parts_fit.ensures in
+    rw c.if-apart.false
+    (elim c.if-parts_fit.branch [
+      | then-parts_fit w ↦
+          let unfit = sym w.value-is ∙ c.if-apart.false in
+          apart_left_unfit _ _ head parts (rw (c.first_part-first.ensures, unfit) at w.apart-then-parts_fit.ensures)
+      | else-parts_fit w ↦ apart_unfit _ _ head parts w.if-parts_fit.false
+    ])

@@ -3,7 +3,6 @@
 use mathlib.Core.Bool.{not}
 use mathlib.Core.Path.{sym, ap, ◌∙◌}
 use native.Mathlib.Omega.{arith}
-use Rattle.rules.specs.Words.{is_parallel}
 use Rattle.rules.proofs.Walks.{run_within, run_number, run_leaf, run_one, run_left, run_right}
 use Rattle.rules.proofs.Resumes.{inside_off, inside_on, ask_part, ask_left, ask_right, ask_other}
 use Rattle.rules.proofs.Resumes.{resume_off, resume_leaf, resume_cut, resume_again, resume_held, resume_watching}
@@ -130,34 +129,27 @@ resume_sides-inside-requires t c =
     let pre = c.requires in
     rw c.first_part-first.ensures (run_left pre.0 pre.2)
 
-pub resume_sides-resume-requires : goal.resume_sides-resume-requires
-resume_sides-resume-requires t c =
+pub resume_sides-resume-q-requires : goal.resume_sides-resume-q-requires
+resume_sides-resume-q-requires t c =
     let pre = c.requires in
     let off = inside_off c.first_part-first.ensures c.inside.ensures (ap not c.if-not-inside.true) in
     ask_other pre.0 c.decreases pre.2 pre.1 off c.second_part-second.ensures
 
-pub resume_sides-returns-then-is_parallel : goal.resume_sides-returns-then-is_parallel
-resume_sides-returns-then-is_parallel t c =
+pub resume_sides-returns-in-Parallel : goal.resume_sides-returns-in-Parallel
+resume_sides-returns-in-Parallel t c =
     let pre = c.requires in
     let off = inside_off c.first_part-first.ensures c.inside.ensures (ap not c.if-not-inside.true) in
-    let right = rw c.second_part-second.ensures at c.resume.ensures in
-    let both = sym c.is_parallel.ensures ∙ c.if-is_parallel.true in
+    let head = rw c.in-Parallel.is at pre.2 in
     let left = resume_off _ _ _ _ off c.idle.ensures in
-    resume_parallel _ _ _ _ pre.1 pre.2 both left right c.beside.ensures
+    let right = rw c.second_part-second.ensures at c.resume-q.ensures in
+    resume_parallel _ _ _ _ pre.1 head left right c.beside.ensures
 
-pub resume_sides-resume-requires-then-not-inside : goal.resume_sides-resume-requires-then-not-inside
-resume_sides-resume-requires-then-not-inside t c =
+pub resume_sides-returns-in_default : goal.resume_sides-returns-in_default
+resume_sides-returns-in_default t c =
     let pre = c.requires in
     let off = inside_off c.first_part-first.ensures c.inside.ensures (ap not c.if-not-inside.true) in
-    ask_other pre.0 c.decreases pre.2 pre.1 off c.second_part-second.ensures
-
-pub resume_sides-returns-then-not-inside : goal.resume_sides-returns-then-not-inside
-resume_sides-returns-then-not-inside t c =
-    let pre = c.requires in
-    let off = inside_off c.first_part-first.ensures c.inside.ensures (ap not c.if-not-inside.true) in
-    let right = rw c.second_part-second.ensures at c.resume-then-not-inside.ensures in
-    let sides = sym c.is_parallel.ensures ∙ c.if-is_parallel.false in
-    resume_right _ _ _ _ pre.1 pre.2 sides off right
+    let right = rw c.second_part-second.ensures at c.resume-q.ensures in
+    resume_right _ _ _ _ pre.1 pre.2 c.in_default.not-Parallel off right
 
 pub resume_sides-resume-p-requires : goal.resume_sides-resume-p-requires
 resume_sides-resume-p-requires t c =
@@ -180,8 +172,8 @@ resume_sides-start-requires t c =
 pub resume_sides-followed-requires : goal.resume_sides-followed-requires
 resume_sides-followed-requires t c = c.if-p-ne0.false
 
-pub resume_sides-inside-requires-in-Parallel : goal.resume_sides-inside-requires-in-Parallel
-resume_sides-inside-requires-in-Parallel t c =
+pub resume_sides-inside-requires-in-Parallel-b : goal.resume_sides-inside-requires-in-Parallel-b
+resume_sides-inside-requires-in-Parallel-b t c =
     let pre = c.requires in
     rw c.second_part-second.ensures (run_right pre.0 pre.2)
 
@@ -189,15 +181,15 @@ pub resume_sides-returns-then-not-inside-2 : goal.resume_sides-returns-then-not-
 resume_sides-returns-then-not-inside-2 t c =
     let pre = c.requires in
     let left = rw c.first_part-first.ensures at c.resume-p.ensures in
-    let off = inside_off c.second_part-second.ensures c.inside-in-Parallel.ensures (ap not c.if-not-inside-2.true) in
-    let both = ap is_parallel c.in-Parallel.is in
+    let off = inside_off c.second_part-second.ensures c.inside-in-Parallel-b.ensures (ap not c.if-not-inside-2.true) in
+    let head = rw c.in-Parallel-b.is at pre.2 in
     let right = resume_off _ _ _ _ off c.idle-then-not-inside-2.ensures in
-    resume_parallel _ _ _ _ pre.1 pre.2 both left right c.beside-then-not-inside-2.ensures
+    resume_parallel _ _ _ _ pre.1 head left right c.beside-then-not-inside-2.ensures
 
-pub resume_sides-resume-requires-in-Parallel : goal.resume_sides-resume-requires-in-Parallel
-resume_sides-resume-requires-in-Parallel t c =
+pub resume_sides-resume-requires : goal.resume_sides-resume-requires
+resume_sides-resume-requires t c =
     let pre = c.requires in
-    ask_right pre.0 c.decreases pre.2 c.second_part-second.ensures c.inside-in-Parallel.ensures (ap not c.if-not-inside-2.false)
+    ask_right pre.0 c.decreases pre.2 c.second_part-second.ensures c.inside-in-Parallel-b.ensures (ap not c.if-not-inside-2.false)
 
 pub resume_sides-returns-else-p-ne0 : goal.resume_sides-returns-else-p-ne0
 resume_sides-returns-else-p-ne0 t c =
@@ -220,6 +212,6 @@ pub resume_sides-returns-else-not-inside-2 : goal.resume_sides-returns-else-not-
 resume_sides-returns-else-not-inside-2 t c =
     let pre = c.requires in
     let left = rw c.first_part-first.ensures at c.resume-p.ensures in
-    let right = rw c.second_part-second.ensures at c.resume-in-Parallel.ensures in
-    let both = ap is_parallel c.in-Parallel.is in
-    resume_parallel _ _ _ _ pre.1 pre.2 both left right c.beside-in-Parallel.ensures
+    let right = rw c.second_part-second.ensures at c.resume.ensures in
+    let head = rw c.in-Parallel-b.is at pre.2 in
+    resume_parallel _ _ _ _ pre.1 head left right c.beside-in-Parallel-b.ensures

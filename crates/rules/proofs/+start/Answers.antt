@@ -22,15 +22,14 @@ start-requires t c =
     let here = run_within c.requires in
     rw c.first_part-part.ensures (omega (arith, c.decreases, here), run_one c.requires head)
 
-pub returns-then-is_trap : goal.returns-then-is_trap
-returns-then-is_trap t c =
-    let head = rw c.row_at-row.ensures at c.in-One.is in
+pub returns-in-Trap : goal.returns-in-Trap
+returns-in-Trap t c =
+    let head = rw (c.row_at-row.ensures, c.in-Trap.is) at c.in-One.is in
     let part = rw c.first_part-part.ensures at c.start.ensures in
-    let trap = sym c.is_trap.ensures ∙ c.if-is_trap.true in
-    start_trap _ _ _ head part trap c.trapped.ensures
+    start_trap _ _ _ head part c.trapped.ensures
 
-pub start-requires-in-One : goal.start-requires-in-One
-start-requires-in-One t c =
+pub start-requires-in_default : goal.start-requires-in_default
+start-requires-in_default t c =
     let head = rw c.row_at-row.ensures at c.in-One.is in
     let here = run_within c.requires in
     rw c.first_part-part.ensures (omega (arith, c.decreases, here), run_one c.requires head)
@@ -121,12 +120,11 @@ pub returns-in-Zero : goal.returns-in-Zero
 returns-in-Zero t c =
     start_leaf _ _ _ (rw c.row_at-row.ensures at c.in-Zero.is) c.leaf.ensures
 
-pub returns-else-is_trap : goal.returns-else-is_trap
-returns-else-is_trap t c =
+pub returns-in_default : goal.returns-in_default
+returns-in_default t c =
     let head = rw c.row_at-row.ensures at c.in-One.is in
-    let part = rw c.first_part-part.ensures at c.start-in-One.ensures in
-    let other = sym c.is_trap.ensures ∙ c.if-is_trap.false in
-    start_part _ _ _ head part other
+    let part = rw c.first_part-part.ensures at c.start-in_default.ensures in
+    start_part _ _ _ head c.in_default.not-Trap part
 
 pub returns-else-p-ne0 : goal.returns-else-p-ne0
 returns-else-p-ne0 t c =

@@ -22,19 +22,19 @@ no_halts_from-requires-2 c =
     let past = root_past c.requires in
     rw (c.row_at-row.ensures, c.new-root.ensures) (omega (arith, past))
 
-pub returns-then-not-no_halts_from : goal.returns-then-not-no_halts_from
-returns-then-not-no_halts_from c =
+pub returns-else-no_halts_from : goal.returns-else-no_halts_from
+returns-else-no_halts_from c =
     let on = sym c.member.ensures ∙ c.if-not-member.false in
-    let over = sym c.no_halts_from-2.ensures ∙ c.if-not-no_halts_from.true in
-    fits_over _ _ on (rw (c.row_at-row.ensures, c.new-root.ensures) at over)
+    let over = sym c.no_halts_from-2.ensures ∙ c.if-no_halts_from.false in
+    rw c.if-no_halts_from.false (fits_over _ _ on (rw (c.row_at-row.ensures, c.new-root.ensures) at over))
 
 pub apart-requires : goal.apart-requires
 apart-requires c =
     rw c.new-root.ensures c.requires.known
 
-pub returns : goal.returns
-returns c =
+pub returns-then-no_halts_from : goal.returns-then-no_halts_from
+returns-then-no_halts_from c =
     let on = sym c.member.ensures ∙ c.if-not-member.false in
-    let none = sym c.no_halts_from-2.ensures ∙ c.if-not-no_halts_from.false in
+    let none = sym c.no_halts_from-2.ensures ∙ c.if-no_halts_from.true in
     let told = rw c.new-root.ensures at c.apart.ensures in
     fits_apart _ _ on (rw (c.row_at-row.ensures, c.new-root.ensures) at none) told

@@ -18,14 +18,14 @@ pub loop-j-init : goal.loop-j-init
 loop-j-init c = refl
 
 pub read-requires : goal.read-requires
-read-requires c = omega (arith, c.count-n.ensures, c.loop-j-test.true)
+read-requires c = omega (arith, c.count-j-end.ensures, c.loop-j-test.true)
 
 pub returns-then-not-event_ok : goal.returns-then-not-event_ok
 returns-then-not-event_ok c =
     let events : List ℕ = c.args.events.now in
     let i : ℕ = c.args.i in
     let j : ℕ = c.loop-j.j in
-    let inside : j < length events / words = omega (arith, c.count-n.ensures, c.loop-j-test.true) in
+    let inside : j < length events / words = omega (arith, c.count-j-end.ensures, c.loop-j-test.true) in
     let event : get_or (sets_in events) j 0 ≡ whole c.read.result = set_at events j inside ∙ sym c.read.ensures in
     let bad : event_ok i (get_or (sets_in events) j 0) ≡ false = ap (event_ok i) event ∙ sym c.event_ok.ensures ∙ c.if-not-event_ok.true in
     let all : is_whole events ≡ true = sym c.is_whole.ensures ∙ c.if-not-is_whole.false in
@@ -36,7 +36,7 @@ loop-j-preserved c =
     let events : List ℕ = c.args.events.now in
     let i : ℕ = c.args.i in
     let j : ℕ = c.loop-j.j in
-    let inside : j < length events / words = omega (arith, c.count-n.ensures, c.loop-j-test.true) in
+    let inside : j < length events / words = omega (arith, c.count-j-end.ensures, c.loop-j-test.true) in
     let event : get_or (sets_in events) j 0 ≡ whole c.read.result = set_at events j inside ∙ sym c.read.ensures in
     let good : event_ok i (get_or (sets_in events) j 0) ≡ true = ap (event_ok i) event ∙ sym c.event_ok.ensures ∙ c.if-not-event_ok.false in
     c.loop-j.invariant ∙ each_next (event_ok i) (sets_in events) j (omega (arith, sets_length events)) good
@@ -45,4 +45,4 @@ pub returns : goal.returns
 returns c =
     let events : List ℕ = c.args.events.now in
     let all : is_whole events ≡ true = sym c.is_whole.ensures ∙ c.if-not-is_whole.false in
-    rw all (sym (c.loop-j.invariant ∙ each_none _ (sets_in events) c.loop-j.j (omega (arith, sets_length events, c.count-n.ensures, c.loop-j-test.false))))
+    rw all (sym (c.loop-j.invariant ∙ each_none _ (sets_in events) c.loop-j.j (omega (arith, sets_length events, c.count-j-end.ensures, c.loop-j-test.false))))

@@ -1,4 +1,3 @@
-use Prim.Native.Nat.{◌-◌}
 use mathlib.Core.Path.{◌≡◌}
 use lib.ListN.{drop}
 use Rattle.bits.specs.Bits.{sets_in}
@@ -8,6 +7,3 @@ use Rattle.run.proofs.events_ok.Given as goal
 
 abbrev pub invariant-loop-j : goal.invariant-loop-j
 invariant-loop-j l = each (event_ok l.i) (sets_in l.events) ≡ each (event_ok l.i) (drop l.j (sets_in l.events))
-
-abbrev pub decreases-loop-j : goal.decreases-loop-j
-decreases-loop-j l = l.n - l.j

@@ -5,7 +5,7 @@ use lib.ListN.{length, length-set}
 use mathlib.Core.List.{[], ◌∷◌}
 use lib.Seq.{length-sets}
 use Rattle.cells.specs.Values.{operands_of}
-use Rattle.cells.proofs.Words.{inside, at_end, read_cell}
+use Rattle.cells.proofs.Words.{inside, at_end, word_cell}
 use Rattle.run.proofs.Counting.{counted_room}
 use Rattle.run.proofs.Numbering.{numbering_none, numbering_next, numbering_all}
 use Rattle.run.proofs.number_registers.Goals as goal
@@ -13,10 +13,6 @@ use Rattle.run.proofs.number_registers.Goals as goal
 pub loop-i-init : goal.loop-i-init
 loop-i-init c =
     (numbering_none c.requires, refl, refl)
-
-pub overflow_cast-i : goal.overflow_cast-i
-overflow_cast-i c =
-    omega (arith, c.requires.few, inside c.args.cells.now c.loop-i-test.true)
 
 pub overflow_cast-places : goal.overflow_cast-places
 overflow_cast-places c =
@@ -29,26 +25,19 @@ bounds-places-i c =
 pub with_operand-k-requires : goal.with_operand-k-requires
 with_operand-k-requires c =
     let words = c.args.cells.now in
-    let cell = read_cell words c.loop-i.i c.new.ensures c.cell_at-c.ensures in
+    let cell = word_cell words _ c.cell_in.ensures in
     let here = inside words c.loop-i-test.true in
-    omega (arith, counted_room c.cell_at-c.result c.loop-i.invariant.0.counted here cell, c.loop-i.invariant.0.room)
-
-pub overflow_add-i : goal.overflow_add-i
-overflow_add-i c =
-    omega (arith, c.requires.few, inside c.args.cells.now c.loop-i-test.true)
-
-pub loop-i-smaller : goal.loop-i-smaller
-loop-i-smaller c = omega arith
+    omega (arith, counted_room c.cell_in.result c.loop-i.invariant.0.counted here cell, c.loop-i.invariant.0.room)
 
 pub loop-i-preserved : goal.loop-i-preserved
 loop-i-preserved c =
     let words = c.args.cells.now in
-    let cell = read_cell words c.loop-i.i c.new.ensures c.cell_at-c.ensures in
+    let cell = word_cell words _ c.cell_in.ensures in
     let here = inside words c.loop-i-test.true in
     let laid = c.with_operand-k.ensures in
     let wide = length-set c.loop-i.places c.loop-i.i c.loop-i.k ∙ c.loop-i.invariant.1 in
-    let room = ap length laid.1 ∙ length-sets c.loop-i.operands c.loop-i.k (operands_of (c.cell_at-c.result ∷ [])) ∙ c.loop-i.invariant.2 in
-    rw laid.0 (numbering_next c.cell_at-c.result c.loop-i.invariant.0 here cell laid.1, wide, room)
+    let room = ap length laid.1 ∙ length-sets c.loop-i.operands c.loop-i.k (operands_of (c.cell_in.result ∷ [])) ∙ c.loop-i.invariant.2 in
+    rw laid.0 (numbering_next c.cell_in.result c.loop-i.invariant.0 here cell laid.1, wide, room)
 
 pub shape_of-places : goal.shape_of-places
 shape_of-places c = c.loop-i.invariant.1

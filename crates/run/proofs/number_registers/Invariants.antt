@@ -1,4 +1,3 @@
-use Prim.Native.Nat.{◌-◌}
 use mathlib.Core.Path.{◌≡◌}
 use lib.ListN.{length}
 use Rattle.cells.specs.Words.{cells_of}
@@ -8,6 +7,3 @@ use Rattle.run.proofs.number_registers.Given as goal
 abbrev pub invariant-loop-i : goal.invariant-loop-i
 invariant-loop-i l =
     Numbering (cells_of l.cells) l.places l.operands l.k l.i × (length l.places ≡ length l.initial.places) × (length l.operands ≡ length l.initial.operands)
-
-abbrev pub decreases-loop-i : goal.decreases-loop-i
-decreases-loop-i l = length l.cells - l.i

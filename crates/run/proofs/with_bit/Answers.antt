@@ -5,5 +5,5 @@ use Rattle.run.proofs.with_bit.Goals as goal
 pub returns-then-on : goal.returns-then-on
 returns-then-on c j = rw (c.if-on.true, and-true) (c.add.ensures j)
 
-pub returns : goal.returns
-returns c j = simp (c.if-on.false, and-false, or-false)
+pub returns-else-on : goal.returns-else-on
+returns-else-on c j = simp (c.if-on.false, and-false, or-false)

@@ -45,8 +45,8 @@ first_instant-requires-in-Two t c =
     let head = head_is c.row_at-row.ensures c.in-Two.is in
     (rw next (omega (arith, stands_within s, c.decreases)), (rw next (stands_two s head).left, c.requires.1))
 
-pub first_instant-requires-in-Clear : goal.first_instant-requires-in-Clear
-first_instant-requires-in-Clear t c =
+pub first_instant-requires-in-Two-2 : goal.first_instant-requires-in-Two-2
+first_instant-requires-in-Two-2 t c =
     let s = c.requires.0 in
     let next = c.first_part-first.ensures in
     let head = head_is c.row_at-row.ensures c.in-Two.is in
@@ -67,20 +67,20 @@ returns-else-runs_on t c =
     c.if-runs_on.false
     (rw next at c.first_instant.ensures)
 
-pub returns-in-At : goal.returns-in-At
-returns-in-At t c =
+pub returns-in-Some : goal.returns-in-Some
+returns-in-Some t c =
     λ s kept.
     let next = c.first_part-first.ensures in
     let head = head_is c.row_at-row.ensures c.in-Two.is in
     instant_left c.args.statics.now s kept head (rw next at c.first_instant-in-Two.ensures)
-    c.in-At.is
+    c.in-Some.is
 
-pub returns-in-Clear : goal.returns-in-Clear
-returns-in-Clear t c =
+pub returns-in_default : goal.returns-in_default
+returns-in_default t c =
     λ s kept.
     let next = c.first_part-first.ensures in
     let head = head_is c.row_at-row.ensures c.in-Two.is in
     let end = c.second_part.ensures in
     instant_right c.args.statics.now s kept head (rw next at c.first_instant-in-Two.ensures)
-    c.in-Clear.is
-    (rw end at c.first_instant-in-Clear.ensures)
+    c.in_default.is
+    (rw end at c.first_instant-in-Two-2.ensures)

@@ -8,13 +8,14 @@ use mathlib.Core.Bool.{Bool, ◌&&◌}
 use Rattle.bits.specs.Bits.{has}
 use Rattle.sets.specs.Leads.{meet, is_x}
 use Rattle.sets.proofs.Searching.{led_here, led_none, led_one, led_left, led_right}
-use Prim.Native.Nat.{ℕ}
+use Prim.Native.Nat.{ℕ, ◌<◌}
+use Rattle.sets.specs.Words.{code_span}
 use Rattle.sets.proofs.+first_led.Goals as goal
 
 -- whether it is an X with a code of f in its R, by what its row says
-tested : (f r : ℕ) {x : Bool} {row row' : Row} → row ≡ row' → x ≡ (is_x row.head && meet max_codes (has r) (has f))
-    → x ≡ (is_x row'.head && meet max_codes (has r) (has f))
-tested f r read is = is ∙ (λ i. is_x (read i).head && meet max_codes (has r) (has f))
+tested : (f r : ℕ) {x : Bool} {row row' : Row} → row ≡ row' → (r < code_span → x ≡ (is_x row.head && meet max_codes (has r) (has f)))
+    → r < code_span → x ≡ (is_x row'.head && meet max_codes (has r) (has f))
+tested f r read is small = is small ∙ (λ i. is_x (read i).head && meet max_codes (has r) (has f))
 
 pub row_at-row-requires : goal.row_at-row-requires
 row_at-row-requires t c = stands_within c.requires.0
@@ -22,9 +23,6 @@ row_at-row-requires t c = stands_within c.requires.0
 pub sets_of-own-requires : goal.sets_of-own-requires
 sets_of-own-requires t c =
     omega (arith, stands_within c.requires.0, c.requires.1)
-
-pub is_led-requires : goal.is_led-requires
-is_led-requires t c = c.sets_of-own.ensures.r_small
 
 pub returns-then-is_led : goal.returns-then-is_led
 returns-then-is_led t c =
@@ -56,10 +54,6 @@ sets_of-q-requires t c =
     let end = c.second_part-second.ensures in
     rw end (omega (arith, stands_within (stands_two s head).right, c.requires.1))
 
-pub leads_left-requires : goal.leads_left-requires
-leads_left-requires t c =
-    (c.sets_of-q.ensures.k_small, c.sets_of-q.ensures.r_small)
-
 pub first_led-requires-in-Two : goal.first_led-requires-in-Two
 first_led-requires-in-Two t c =
     let s = c.requires.0 in
@@ -74,11 +68,8 @@ sets_of-p-requires t c =
     let head = head_is c.row_at-row.ensures c.in-Two.is in
     rw next (omega (arith, stands_within (stands_two s head).left, c.requires.1))
 
-pub leads_right-requires : goal.leads_right-requires
-leads_right-requires t c = c.sets_of-p.ensures.r_small
-
-pub first_led-requires-in-Clear : goal.first_led-requires-in-Clear
-first_led-requires-in-Clear t c =
+pub first_led-requires-in-Two-2 : goal.first_led-requires-in-Two-2
+first_led-requires-in-Two-2 t c =
     let s = c.requires.0 in
     let next = c.first_part-first.ensures in
     let head = head_is c.row_at-row.ensures c.in-Two.is in
@@ -102,8 +93,8 @@ returns-in-One t c =
     led_one _ s kept (has c.args.f) c.sets_of-own.ensures test c.if-is_led.false head c.leads_one.ensures
     (rw next at c.first_led.ensures)
 
-pub returns-in-At : goal.returns-in-At
-returns-in-At t c =
+pub returns-in-Some : goal.returns-in-Some
+returns-in-Some t c =
     λ s kept.
     let next = c.first_part-first.ensures in
     let head = head_is c.row_at-row.ensures c.in-Two.is in
@@ -111,10 +102,10 @@ returns-in-At t c =
     let test = tested c.args.f c.sets_of-own.result.r c.row_at-row.ensures c.is_led.ensures in
     led_left _ s kept (has c.args.f) c.sets_of-own.ensures test c.if-is_led.false head
     (rw end at c.sets_of-q.ensures)
-    c.leads_left.ensures (rw next at c.first_led-in-Two.ensures) c.in-At.is
+    c.leads_left.ensures (rw next at c.first_led-in-Two.ensures) c.in-Some.is
 
-pub returns-in-Clear : goal.returns-in-Clear
-returns-in-Clear t c =
+pub returns-in_default : goal.returns-in_default
+returns-in_default t c =
     λ s kept.
     let next = c.first_part-first.ensures in
     let head = head_is c.row_at-row.ensures c.in-Two.is in
@@ -122,5 +113,5 @@ returns-in-Clear t c =
     let test = tested c.args.f c.sets_of-own.result.r c.row_at-row.ensures c.is_led.ensures in
     led_right _ s kept (has c.args.f) c.sets_of-own.ensures test c.if-is_led.false head
     (rw end at c.sets_of-q.ensures)
-    c.leads_left.ensures (rw next at c.first_led-in-Two.ensures) c.in-Clear.is
-    (rw next at c.sets_of-p.ensures) c.leads_right.ensures (rw end at c.first_led-in-Clear.ensures)
+    c.leads_left.ensures (rw next at c.first_led-in-Two.ensures) c.in_default.is
+    (rw next at c.sets_of-p.ensures) c.leads_right.ensures (rw end at c.first_led-in-Two-2.ensures)

@@ -7,6 +7,6 @@ use Rattle.sets.proofs.leads_parallel.Goals as goal
 
 pub returns : goal.returns
 returns c =
-    let common = (c.up_to_common.ensures max_codes c.requires).codes in
+    λ small. let common = (c.up_to_common.ensures max_codes small).codes in
     parallel_leads (has c.args.q.r) (has c.args.f) c.at_least.ensures.0 common
     c.join-with_other.ensures c.ends.ensures c.only_if.ensures c.join.ensures

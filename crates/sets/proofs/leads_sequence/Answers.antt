@@ -7,10 +7,10 @@ use Rattle.sets.proofs.leads_sequence.Goals as goal
 
 pub returns-then-meets : goal.returns-then-meets
 returns-then-meets c =
-    let met = sym (c.meets.ensures max_codes c.requires) ∙ c.if-meets.true in
+    λ small. let met = sym (c.meets.ensures max_codes small) ∙ c.if-meets.true in
     c.with_0.ensures ∙ sequence_led (has c.args.k) (has c.args.f) met
 
 pub returns : goal.returns
 returns c =
-    let met = sym (c.meets.ensures max_codes c.requires) ∙ c.if-meets.false in
+    λ small. let met = sym (c.meets.ensures max_codes small) ∙ c.if-meets.false in
     c.without_0.ensures ∙ sequence_not (has c.args.k) (has c.args.f) met

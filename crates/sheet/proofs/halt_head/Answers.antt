@@ -1,5 +1,6 @@
 -- COUNT past the last halt; before that the halt takes the next number.
-use mathlib.Core.Path.{sym, ◌∙◌}
+use mathlib.Core.Path.{sym, ap, ◌∙◌}
+use Rattle.std.specs.Prelude.{Err}
 use native.Mathlib.Omega.{arith}
 use borrow.Author.Tests.{leb-false}
 use Rattle.number.specs.Counts.{of_halt}
@@ -10,7 +11,7 @@ use Rattle.sheet.proofs.halt_head.Goals as goal
 
 pub returns-then-halts_full : goal.returns-then-halts_full
 unfolding halt_at pick
-returns-then-halts_full c = c.refused.ensures ∙ simp (sym c.halts_full.ensures ∙ c.if-halts_full.true)
+returns-then-halts_full c = ap Err c.at.ensures ∙ simp (sym c.halts_full.ensures ∙ c.if-halts_full.true)
 
 pub overflow_add-number : goal.overflow_add-number
 overflow_add-number c =

@@ -1,5 +1,6 @@
 -- Each arm is the case of `of_kind` with its kind, and the last one is what is left: over 10.
-use mathlib.Core.Path.{sym, ◌∙◌}
+use mathlib.Core.Path.{sym, ap, ◌∙◌}
+use Rattle.std.specs.Prelude.{Err}
 use borrow.Author.Rules.{rules}
 use Rattle.number.specs.Number.{pick}
 use Rattle.sheet.specs.Read.{of_kind}
@@ -52,4 +53,4 @@ returns-in-10 c = c.local_head.ensures ∙ simp c.in-10.is
 
 pub returns-in_default : goal.returns-in_default
 returns-in_default c =
-    c.refused.ensures ∙ sym (over_ten _ _ _ _ _ (search rules))
+    ap Err c.at.ensures ∙ sym (over_ten _ _ _ _ _ (search rules))

@@ -1,5 +1,6 @@
 -- COUNT past the last signal; before that the local takes the next number.
-use mathlib.Core.Path.{sym, ◌∙◌}
+use mathlib.Core.Path.{sym, ap, ◌∙◌}
+use Rattle.std.specs.Prelude.{Err}
 use native.Mathlib.Omega.{arith}
 use borrow.Author.Tests.{leb-false}
 use Rattle.number.specs.Counts.{of_signal}
@@ -10,7 +11,7 @@ use Rattle.sheet.proofs.local_head.Goals as goal
 
 pub returns-then-signals_full : goal.returns-then-signals_full
 unfolding local_at pick
-returns-then-signals_full c = c.refused.ensures ∙ simp (sym c.signals_full.ensures ∙ c.if-signals_full.true)
+returns-then-signals_full c = ap Err c.at.ensures ∙ simp (sym c.signals_full.ensures ∙ c.if-signals_full.true)
 
 pub overflow_add-number : goal.overflow_add-number
 overflow_add-number c =

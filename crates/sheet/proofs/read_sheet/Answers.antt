@@ -14,55 +14,49 @@ use Rattle.sheet.proofs.read_sheet.Goals as goal
 few : (i o : ℕ) {r : Bool} → r ≡ ltb max_signals (1 + i + o) → r ≡ false → 1 + i + o ≤ max_signals
 few i o is below = ltb-false max_signals (1 + i + o) (sym is ∙ below)
 
-pub fault_of-requires : goal.fault_of-requires
-fault_of-requires c = rw c.in_default.is tt
-
 pub returns-in_default : goal.returns-in_default
 unfolding read_sheet after_inputs
 returns-in_default c =
-    let inputs = sym c.read_number-a.ensures ∙ c.fault_of.ensures in
+    let inputs = sym c.read_number-inputs.ensures ∙ c.unwrap_err.ensures in
     answers.sheet_stop (simp inputs)
 
-pub fault_of-requires-in_default-b : goal.fault_of-requires-in_default-b
-fault_of-requires-in_default-b c = rw c.in_default-b.is tt
-
-pub returns-in_default-b : goal.returns-in_default-b
+pub returns-in_default-outputs : goal.returns-in_default-outputs
 unfolding read_sheet after_inputs after_outputs
-returns-in_default-b c =
-    let inputs = sym c.read_number-a.ensures ∙ c.in-Value.is in
-    let outputs = sym c.read_number-b.ensures ∙ c.fault_of-in_default-b.ensures in
+returns-in_default-outputs c =
+    let inputs = sym c.read_number-inputs.ensures ∙ c.in-Ok.is in
+    let outputs = sym c.read_number-outputs.ensures ∙ c.unwrap_err-in_default-outputs.ensures in
     answers.sheet_stop (simp (inputs, outputs))
 
 pub returns-then-header_full : goal.returns-then-header_full
 unfolding read_sheet after_inputs
 returns-then-header_full c =
-    let i = c.in-Value.i in
-    let o = c.in-Value-b.o in
-    let second = c.in-Value.past_inputs.at in
-    let at = c.in-Value-b.past_outputs.at in
-    let inputs = sym c.read_number-a.ensures ∙ c.in-Value.is in
-    let outputs = sym c.read_number-b.ensures ∙ c.in-Value-b.is in
+    let i = c.in-Ok.i in
+    let o = c.in-Ok-outputs.o in
+    let second = c.in-Ok.past_inputs.at in
+    let at = c.in-Ok-outputs.past_outputs.at in
+    let inputs = sym c.read_number-inputs.ensures ∙ c.in-Ok.is in
+    let outputs = sym c.read_number-outputs.ensures ∙ c.in-Ok-outputs.is in
     let many = ltb-true max_signals (1 + i + o) (sym c.header_full.ensures ∙ c.if-header_full.true) in
-    answers.sheet_stop (simp (inputs, outputs) (answers.header_stop c.args.s.now i o second at many))
+    rw c.at.ensures (answers.sheet_stop (simp (inputs, outputs) (answers.header_stop c.args.s.now i o second at many)))
 
 pub overflow_cast-i : goal.overflow_cast-i
-overflow_cast-i c = omega (arith, few c.in-Value.i c.in-Value-b.o c.header_full.ensures c.if-header_full.false)
+overflow_cast-i c = omega (arith, few c.in-Ok.i c.in-Ok-outputs.o c.header_full.ensures c.if-header_full.false)
 
 pub overflow_cast-o : goal.overflow_cast-o
-overflow_cast-o c = omega (arith, few c.in-Value.i c.in-Value-b.o c.header_full.ensures c.if-header_full.false)
+overflow_cast-o c = omega (arith, few c.in-Ok.i c.in-Ok-outputs.o c.header_full.ensures c.if-header_full.false)
 
 pub read_root-requires : goal.read_root-requires
 read_root-requires c =
-    (omega (arith, c.requires), few c.in-Value.i c.in-Value-b.o c.header_full.ensures c.if-header_full.false)
+    (omega (arith, c.requires), few c.in-Ok.i c.in-Ok-outputs.o c.header_full.ensures c.if-header_full.false)
 
 pub returns : goal.returns
 unfolding read_sheet after_inputs
 returns c =
-    let i = c.in-Value.i in
-    let o = c.in-Value-b.o in
-    let second = c.in-Value.past_inputs.at in
-    let at = c.in-Value-b.past_outputs.at in
-    let inputs = sym c.read_number-a.ensures ∙ c.in-Value.is in
-    let outputs = sym c.read_number-b.ensures ∙ c.in-Value-b.is in
+    let i = c.in-Ok.i in
+    let o = c.in-Ok-outputs.o in
+    let second = c.in-Ok.past_inputs.at in
+    let at = c.in-Ok-outputs.past_outputs.at in
+    let inputs = sym c.read_number-inputs.ensures ∙ c.in-Ok.is in
+    let outputs = sym c.read_number-outputs.ensures ∙ c.in-Ok-outputs.is in
     let header = answers.header_fits c.args.s.now i o second at (few i o c.header_full.ensures c.if-header_full.false) in
     simp (inputs, outputs, header) c.read_root.ensures

@@ -1,16 +1,12 @@
 -- The signal that was read, or its fault.
-use mathlib.Core.Path.{sym, ◌∙◌}
 use Rattle.sheet.specs.Read.{naming}
+use Rattle.sheet.proofs.Reading.{handed_on}
 use Rattle.sheet.proofs.watching_head.Goals as goal
 
-pub returns-in-Refused : goal.returns-in-Refused
+pub returns-in_err-x : goal.returns-in_err-x
 unfolding naming
-returns-in-Refused c =
-    let signal = sym c.read_signal.ensures ∙ c.in-Refused.is in
-    simp signal
+returns-in_err-x c = rw (handed_on c.from_residual.ensures.1, ← c.in_err-x.ensures)
 
-pub returns-in-Named : goal.returns-in-Named
+pub returns : goal.returns
 unfolding naming
-returns-in-Named c =
-    let signal = sym c.read_signal.ensures ∙ c.in-Named.is in
-    simp signal
+returns c = rw (← c.in_ok-x.ensures)

@@ -3,10 +3,10 @@ use Rattle.interpreter.proofs.Interpreting.{was_refused, was_compiled}
 use Rattle.sheet_entries.proofs.SheetEntries.{checked_refused, checked_accepted}
 use Rattle.sheet_entries.proofs.check.Goals as goal
 
-pub returns-in-Refused : goal.returns-in-Refused
-returns-in-Refused c =
-    rw c.refusal.ensures (checked_refused (was_refused c.compile.ensures c.in-Refused.is))
+pub returns-in-Err : goal.returns-in-Err
+returns-in-Err c =
+    rw c.refusal.ensures (checked_refused (was_refused c.compile.ensures c.in-Err.is))
 
-pub returns-in-Program : goal.returns-in-Program
-returns-in-Program c =
-    rw c.acceptance.ensures (checked_accepted (was_compiled c.compile.ensures c.in-Program.is))
+pub returns-in-Ok : goal.returns-in-Ok
+returns-in-Ok c =
+    rw c.acceptance.ensures (checked_accepted (was_compiled c.compile.ensures c.in-Ok.is))

@@ -1,32 +1,31 @@
 -- `moved_truth` meets its contract: with each turn one bit more stands at its place.
-use Prim.Native.Nat.{◌<◌}
+use mathlib.Core.Path.{◌≡◌}
+use Prim.Native.Nat.{ℕ, ◌<◌}
 use native.Mathlib.Omega.{arith}
-use lib.ListN.{get_or}
 use Rattle.tables.specs.Answering.{settings}
+use Rattle.tables.specs.Orders.{orders, order_at, place}
 use Rattle.tables.proofs.OrderLaws.{place_small}
 use Rattle.tables.proofs.Moving.{none_placed, one_placed, all_placed}
 use Rattle.tables.proofs.moved_truth.Goals as goal
 
 -- a place is one of the truth table's
-small : (c : goal.In-loop-b) → get_or c.places-places.result c.loop-b.b 0 < settings
-small c =
-    let b = c.loop-b.b in
-    rw (c.places-places.ensures b c.loop-b-test.true) (place_small c.args.order b c.requires c.loop-b-test.true)
+small : {p o b : ℕ} → p ≡ place (order_at o) b → o < orders → b < settings → p < settings
+small {p} {o} {b} e ho hb = rw e (place_small o b ho hb)
 
 pub loop-b-init : goal.loop-b-init
 loop-b-init c = none_placed c.args.order c.args.truth
 
 pub overflow_cast-moved : goal.overflow_cast-moved
-overflow_cast-moved c = omega (arith, small c)
+overflow_cast-moved c = omega (arith, small (c.places-places.ensures c.loop-b.b c.loop-b-test.true) c.requires c.loop-b-test.true)
 
 pub overflow_shr-moved : goal.overflow_shr-moved
-overflow_shr-moved c = omega (arith, small c)
+overflow_shr-moved c = omega (arith, small (c.places-places.ensures c.loop-b.b c.loop-b-test.true) c.requires c.loop-b-test.true)
 
 pub overflow_cast-moved-in-loop-b : goal.overflow_cast-moved-in-loop-b
-overflow_cast-moved-in-loop-b c = omega (arith, small c)
+overflow_cast-moved-in-loop-b c = omega (arith, small (c.places-places.ensures c.loop-b.b c.loop-b-test.true) c.requires c.loop-b-test.true)
 
 pub overflow_shl-moved : goal.overflow_shl-moved
-overflow_shl-moved c = omega (arith, small c)
+overflow_shl-moved c = omega (arith, small (c.places-places.ensures c.loop-b.b c.loop-b-test.true) c.requires c.loop-b-test.true)
 
 pub overflow_add-moved : goal.overflow_add-moved
 overflow_add-moved c =

@@ -3,11 +3,4 @@ use mathlib.Core.Path.{refl}
 use Rattle.tracing.proofs.ready.Goals as goal
 
 pub returns : goal.returns
-returns c =
-    record {
-      awaits = refl;
-      prepares = c.prepare.ensures;
-      outputs = c.outputs_of.ensures;
-      fresh = c.empty.ensures;
-      none = refl;
-    }
+returns c = record { prepares = c.prepare.ensures; outputs = c.outputs_of.ensures; fresh = c.empty.ensures; none = refl }

@@ -25,5 +25,5 @@ unfolding of
 returns c =
     let text = c.args.text.now in
     let then = order_then text c.word_end-end.result c.word_end-end.ensures.value c.if-text-end.false
-    (sym c.order_value.ensures ∙ c.in-Is.is) in
+    (sym c.order_value.ensures ∙ c.in-Some.is) in
     rw then c.answer_table.ensures

@@ -4,25 +4,24 @@ use borrow.Author.Tests.{eq-eqb, ne_eqb}
 use Rattle.answers.specs.Questions.{or_spelled}
 use Rattle.answers.proofs.ordering.order_value.Goals as goal
 
-pub returns-in_default : goal.returns-in_default
+pub returns-in_err-n : goal.returns-in_err-n
 unfolding or_spelled
-returns-in_default c =
-    rw (sym c.decimal_value.ensures ∙ c.in_default.is)
+returns-in_err-n c = rw (sym c.decimal_value.ensures ∙ c.in_err-n.was) c.from_residual.ensures
 
 pub returns-then-n : goal.returns-then-n
 unfolding or_spelled
 returns-then-n c =
-    let value = sym c.decimal_value.ensures ∙ c.in-Is.is in
+    let value = sym c.decimal_value.ensures ∙ c.in_ok-n.was in
     rw (value, ne_eqb _ _ c.if-n.true)
 
-pub returns-then-same : goal.returns-then-same
+pub returns-then-eq : goal.returns-then-eq
 unfolding or_spelled
-returns-then-same c =
-    let value = sym c.decimal_value.ensures ∙ c.in-Is.is in
-    rw (value, eq-eqb _ _ c.if-n.false, sym c.same.ensures ∙ c.if-same.true)
+returns-then-eq c =
+    let value = sym c.decimal_value.ensures ∙ c.in_ok-n.was in
+    rw (value, eq-eqb _ _ c.if-n.false, sym c.eq.ensures ∙ c.if-eq.true)
 
-pub returns : goal.returns
+pub returns-else-eq : goal.returns-else-eq
 unfolding or_spelled
-returns c =
-    let value = sym c.decimal_value.ensures ∙ c.in-Is.is in
-    rw (value, eq-eqb _ _ c.if-n.false, sym c.same.ensures ∙ c.if-same.false)
+returns-else-eq c =
+    let value = sym c.decimal_value.ensures ∙ c.in_ok-n.was in
+    rw (value, eq-eqb _ _ c.if-n.false, sym c.eq.ensures ∙ c.if-eq.false)

@@ -1,11 +1,9 @@
 -- The texts stand one behind the other.
-use Rattle.texts.proofs.Putting.{puts_more}
-use Rattle.answers.specs.Texts.{table_text}
 use borrow.Author.Rules.{rules}
+use Rattle.texts.proofs.Putting.{writes_then}
+use Rattle.answers.specs.Texts.{table_text}
 use Rattle.answers.proofs.ordering.put_table.Goals as goal
 
 pub returns : goal.returns
 unfolding table_text
-returns c =
-    let pins = puts_more (search rules) c.put_pins-truth.ensures c.put_hex.ensures in
-    rw c.number.ensures at (puts_more (search rules) c.put_part-first.ensures pins)
+returns c = rw (c.number.ensures, c.from.ensures) at (writes_then c.put_part.ensures (writes_then c.put_pins.ensures (λ _. c.hex.ensures)) (search rules))

@@ -1,12 +1,9 @@
 -- The texts stand one behind the other.
-use Rattle.texts.proofs.Putting.{puts_more}
-use Rattle.answers.specs.Texts.{reaction_text}
 use borrow.Author.Rules.{rules}
+use Rattle.texts.proofs.Putting.{writes_then}
+use Rattle.answers.specs.Texts.{reaction_text}
 use Rattle.answers.proofs.output.reaction.Goals as goal
 
 pub returns : goal.returns
 unfolding reaction_text
-returns c =
-    let state = puts_more (search rules) c.put_set-end.ensures c.put_byte.ensures in
-    let signals = puts_more (search rules) c.put_set-third.ensures (puts_more (search rules) c.put_byte-fourth.ensures state) in
-    puts_more (search rules) c.verdict-first.ensures (puts_more (search rules) c.put_byte-second.ensures signals)
+returns c = writes_then c.verdict.ensures (writes_then c.byte.ensures (writes_then c.set.ensures (writes_then c.byte-2.ensures (writes_then c.set-2.ensures (λ _. c.byte-3.ensures))))) (search rules)

@@ -1,31 +1,32 @@
 -- No table, no tables, or some.
 use mathlib.Core.Path.{sym, ◌∙◌}
-use borrow.Author.Tests.{not-true, not-false}
 use lib.Seq.{length-take-le}
 use Rattle.answers.proofs.Saying.{said, said_bad}
 use Rattle.answers.specs.Questions.{of_tables, tables_in}
 use Rattle.answers.specs.Answering.{is_covered}
 use Rattle.answers.proofs.questions.answer_cover.Goals as goal
 
-pub returns-then-same : goal.returns-then-same
+pub returns-then-eq : goal.returns-then-eq
 unfolding of_tables tables_in
-returns-then-same c =
-    rw (sym c.same.ensures ∙ c.if-same.true)
+returns-then-eq c =
+    rw (sym c.eq.ensures ∙ c.if-eq.true)
     (said (is_covered c.cover_file.ensures) c.answer.ensures)
 
-pub returns-then-not-read : goal.returns-then-not-read
+pub returns-in_default : goal.returns-in_default
 unfolding of_tables tables_in
-returns-then-not-read c =
-    let some = sym c.same.ensures ∙ c.if-same.false in
-    rw (some, c.read-read.ensures.bad (not-true _ c.if-not-read.true)) (said_bad c.bad_line.ensures)
+returns-in_default c =
+    let some = sym c.eq.ensures ∙ c.if-eq.false in
+    let none = rw c.in_default.is at c.read.ensures in
+    rw (some, none) (said_bad c.bad_line.ensures)
 
 pub slice_bounds-cover_file-end-2 : goal.slice_bounds-cover_file-end-2
 slice_bounds-cover_file-end-2 c =
-    sym (length-take-le _ _ c.read-read.ensures.few)
+    let read = rw c.in-Some.is at c.read.ensures in
+    sym (length-take-le _ _ read.0)
 
 pub returns : goal.returns
 unfolding of_tables tables_in
 returns c =
-    let some = sym c.same.ensures ∙ c.if-same.false in
-    let these = c.read-read.ensures.good (not-false _ c.if-not-read.false) in
-    rw (some, these) (said (is_covered c.cover_file-2.ensures) c.answer-2.ensures)
+    let some = sym c.eq.ensures ∙ c.if-eq.false in
+    let read = rw c.in-Some.is at c.read.ensures in
+    rw (some, read.1) (said (is_covered c.cover_file-2.ensures) c.answer-2.ensures)

@@ -3,22 +3,22 @@ use mathlib.Core.Path.{sym, ◌∙◌}
 use Rattle.answers.specs.Questions.{asked}
 use Rattle.answers.proofs.questions.answer_question.Goals as goal
 
-pub returns-then-same : goal.returns-then-same
+pub returns-then-eq : goal.returns-then-eq
 unfolding asked
-returns-then-same c =
-    let one = sym c.same.ensures ∙ c.if-same.true in
+returns-then-eq c =
+    let one = sym c.eq.ensures ∙ c.if-eq.true in
     rw one c.answer_rest.ensures
 
-pub returns-then-same-2 : goal.returns-then-same-2
+pub returns-then-eq-2 : goal.returns-then-eq-2
 unfolding asked
-returns-then-same-2 c =
-    let one = sym c.same.ensures ∙ c.if-same.false in
-    let two = sym c.same-2.ensures ∙ c.if-same-2.true in
+returns-then-eq-2 c =
+    let one = sym c.eq.ensures ∙ c.if-eq.false in
+    let two = sym c.eq-2.ensures ∙ c.if-eq-2.true in
     rw (one, two) c.answer.ensures
 
 pub returns : goal.returns
 unfolding asked
 returns c =
-    let one = sym c.same.ensures ∙ c.if-same.false in
-    let two = sym c.same-2.ensures ∙ c.if-same-2.false in
+    let one = sym c.eq.ensures ∙ c.if-eq.false in
+    let two = sym c.eq-2.ensures ∙ c.if-eq-2.false in
     rw (one, two) c.answer_about.ensures

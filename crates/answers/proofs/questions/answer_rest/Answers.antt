@@ -1,18 +1,14 @@
 -- A state, or none.
-use borrow.Author.Tests.{not-true, not-false}
 use Rattle.texts.proofs.Sets.{was_set, was_no_set}
 use Rattle.answers.proofs.Saying.{said, said_bad}
 use Rattle.answers.specs.Questions.{of}
 use Rattle.answers.specs.Answering.{is_rest}
 use Rattle.answers.proofs.questions.answer_rest.Goals as goal
 
-pub returns-then-not-state : goal.returns-then-not-state
+pub returns-in_default : goal.returns-in_default
 unfolding of
-returns-then-not-state c =
-    rw (was_no_set c.set_value-state.ensures (not-true _ c.if-not-state.true)) (said_bad c.bad_line.ensures)
+returns-in_default c = rw (was_no_set (rw c.in_default.is at c.set_value.ensures)) (said_bad c.bad_line.ensures)
 
 pub returns : goal.returns
 unfolding of
-returns c =
-    rw (was_set c.set_value-state.ensures (not-false _ c.if-not-state.false))
-    (said is_rest (rw c.rest.ensures at c.yes_or_no.ensures))
+returns c = rw (was_set (rw c.in-Some.is at c.set_value.ensures)) (said is_rest (rw c.rest.ensures at c.yes_or_no.ensures))

@@ -19,5 +19,5 @@ slice_bounds-write_file-end c = sym (length-take-le c.lent-end.result _ (omega (
 pub returns : goal.returns
 unfolding of
 returns c =
-    rw (sym c.decimal_value.ensures ∙ c.in-Is.is)
+    rw (sym c.decimal_value.ensures ∙ c.in-Some.is)
     (c.write_file.ensures _ (lent_part _ _ (search rules) c.lent-end.ensures))

@@ -1,25 +1,17 @@
-use native.Mathlib.Omega.{arith}
+-- The library's search stops at the first.
+use mathlib.Core.Path.{◌≡◌, sym, ◌∙◌}
+use borrow.Author.Rules.{rules}
+use borrow.Author.Tests.{tests}
+use Rattle.std.proofs.lemmas.Iterator.{IsFirst-from_position, YieldsList-from_slice}
 use Rattle.io.proofs.Counting.{prefix_len_of_le}
-use Rattle.answers.proofs.Blanks.{end_sign, end_later, end_text}
+use Rattle.answers.specs.Words.{part_end}
+use Rattle.answers.proofs.Blanks.{part_end_is, part_end_few}
 use Rattle.answers.proofs.words.part_end.Goals as goal
-
-pub loop-i-init : goal.loop-i-init
-loop-i-init c = (omega arith, omega arith)
-
-pub returns-then-text-i : goal.returns-then-text-i
-returns-then-text-i c =
-    let args = c.args in
-    let here = end_sign args.sign args.text.now c.loop-i.i (omega arith) c.if-text-i.true in
-    record { prefix_len = prefix_len_of_le _ _ (omega arith); value = omega (arith, here) }
-
-pub loop-i-preserved : goal.loop-i-preserved
-loop-i-preserved c =
-    let args = c.args in
-    let later = end_later args.sign args.text.now c.loop-i.i (omega arith) c.if-text-i.false in
-    (omega arith, omega (arith, later))
 
 pub returns : goal.returns
 returns c =
-    let args = c.args in
-    let past = end_text args.sign args.text.now c.loop-i.i (omega arith) in
-    record { prefix_len = prefix_len_of_le _ _ (omega arith); value = omega (arith, past) }
+    let sign = c.args.sign in
+    let first = IsFirst-from_position _ _ _ (λ x. x ≡ sign) (λ x. x ≡ sign → ⊥) c.position.ensures.ran (YieldsList-from_slice c.args.text.now cc)
+    (λ x q k. search (rules, tests)) (λ x q k. search (rules, tests)) in
+    let value = c.unwrap_or.ensures ∙ sym (part_end_is sign c.args.text.now c.position.result first) in
+    record { prefix_len = prefix_len_of_le _ _ (rw value (part_end_few sign c.args.text.now)); value = value }

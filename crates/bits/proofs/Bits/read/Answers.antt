@@ -1,27 +1,13 @@
--- Word by word.
-use borrow.Author.Rules.{rules}
-use Prim.Native.Nat.{◌*◌}
-use mathlib.Core.Path.{◌≡◌, refl, ap}
+-- The words copied are those at the set's place.
+use mathlib.Core.Path.{◌≡◌, ap}
+use Prim.Native.Nat.{◌+◌, ◌*◌, ◌-◌}
 use native.Mathlib.Omega.{arith}
-use lib.ListN.{take, drop, length-set}
 use Rattle.bits.specs.Bits.{words, whole_in, whole}
-use Rattle.bits.proofs.Columns.{copy_more, copied}
 use Rattle.bits.proofs.Bits.read.Goals as goal
-
-pub loop-i-init : goal.loop-i-init
-loop-i-init c = (search rules, refl, refl)
-
-pub loop-i-preserved : goal.loop-i-preserved
-loop-i-preserved c = let a = c.args in (
-  omega arith,
-  simp length-set c.loop-i.invariant.1,
-  copy_more a.column.now (a.n * words) c.loop-i.i c.loop-i.words (omega arith) (omega arith) c.loop-i.invariant.2,
-)
 
 pub returns : goal.returns
 unfolding whole
 returns c =
-    let a = c.args in
-    let e : c.loop-i.i ≡ words = omega arith in
-    let p : take words c.loop-i.words ≡ take words (drop (a.n * words) a.column.now) = rw e at c.loop-i.invariant.2 in
-    ap whole_in (copied a.column.now c.loop-i.words (a.n * words) words c.loop-i.invariant.1 p)
+    let n = c.args.n in
+    let one_set : (n + 1) * words - n * words ≡ words = omega arith in
+    ap whole_in (rw one_set at c.copy_from_slice.ensures.after)

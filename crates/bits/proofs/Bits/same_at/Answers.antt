@@ -8,7 +8,7 @@ use Rattle.bits.proofs.Making.{alike_none, alike_more, alike_all, alike_stop}
 use Rattle.bits.proofs.Bits.same_at.Goals as goal
 
 pub loop-i-init : goal.loop-i-init
-loop-i-init c = (search rules, alike_none _ _ _)
+loop-i-init c = alike_none _ _ _
 
 pub returns-then-not-same_at : goal.returns-then-not-same_at
 returns-then-not-same_at c =
@@ -20,7 +20,7 @@ returns-then-not-same_at c =
 
 pub loop-i-preserved : goal.loop-i-preserved
 loop-i-preserved c =
-    (omega arith, alike_more c.loop-i.invariant.1 c.same_at.ensures c.if-not-same_at.false)
+    alike_more c.loop-i.invariant c.same_at.ensures c.if-not-same_at.false
 
 pub returns : goal.returns
 returns c =
@@ -29,4 +29,4 @@ returns c =
     let pa : Proper g.a.words = record { long = search rules; small = λ p. fits (search rules) } in
     let pb : Proper g.b.words = record { long = search rules; small = λ p. fits (search rules) } in
     let all : c.loop-i.i ≡ words = omega arith in
-    alike_all {w = g.self} {a = g.a} {b = g.b} pw pa pb (rw all at c.loop-i.invariant.1)
+    alike_all {w = g.self} {a = g.a} {b = g.b} pw pa pb (rw all at c.loop-i.invariant)

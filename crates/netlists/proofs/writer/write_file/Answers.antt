@@ -1,42 +1,39 @@
 -- The length first; then the header's numbers and the cells, one behind the other.
-use Rattle.netlists.proofs.Laying.{few_words, all_small, too_short, cells_room, file_written_lem}
+use Rattle.netlists.proofs.Laying.{few_words, all_small, too_short, inputs_room, outputs_room, count_room, cells_room, file_laid}
+use borrow.Author.Rules.{rules}
+use mathlib.Core.Path.{refl, sym, ◌∙◌}
 use native.Mathlib.Omega.{arith}
 use Rattle.netlists.proofs.writer.write_file.Goals as goal
 
-pub file_length-length-requires : goal.file_length-length-requires
-file_length-length-requires c = c.requires
-
 pub returns-then-buffer-length : goal.returns-then-buffer-length
 returns-then-buffer-length c =
-    let a = c.args in
-    let sound = c.requires in
-    too_short a.i a.o a.words.now sound a.buffer.now c.file_length-length.ensures c.if-buffer-length.true
+    rw c.at.ensures (too_short _ _ _ c.requires _ c.file_length-length.ensures c.if-buffer-length.true)
+
+pub number-requires : goal.number-requires
+number-requires c = inputs_room _ _ _ c.requires c.file_length-length.ensures c.if-buffer-length.false refl
+
+pub number-requires-2 : goal.number-requires-2
+number-requires-2 c =
+    outputs_room _ _ _ c.requires c.file_length-length.ensures c.if-buffer-length.false refl c.number.ensures
+
+pub number-requires-3 : goal.number-requires-3
+number-requires-3 c =
+    count_room _ _ _ c.requires c.file_length-length.ensures c.if-buffer-length.false refl c.number.ensures c.number-2.ensures
 
 pub overflow_cast-words : goal.overflow_cast-words
-overflow_cast-words c =
-    let a = c.args in
-    let sound = c.requires in
-    omega (arith, few_words a.i a.o a.words.now sound)
+overflow_cast-words c = omega (arith, few_words _ _ _ c.requires)
 
-pub write_cells-requires : goal.write_cells-requires
-write_cells-requires c =
-    let a = c.args in
-    let sound = c.requires in
-    let w = a.words.now in
-    let long = c.file_length-length.ensures in
-    let inputs = c.write_number-second.ensures in
-    let outputs = c.write_number-third.ensures in
-    let count = c.write_number-start.ensures in
-    let room = cells_room a.i a.o w sound a.buffer.now long c.if-buffer-length.false inputs outputs count in
-    (all_small a.i a.o w sound, few_words a.i a.o w sound, room)
+pub cells-requires : goal.cells-requires
+cells-requires c =
+    let counted = c.number-3.ensures in
+    let room =
+    cells_room _ _ _ c.requires c.file_length-length.ensures c.if-buffer-length.false refl c.number.ensures c.number-2.ensures counted in
+    (all_small _ _ _ c.requires, room)
 
 pub returns : goal.returns
 returns c =
-    let a = c.args in
-    let sound = c.requires in
-    let long = c.file_length-length.ensures in
-    let inputs = c.write_number-second.ensures in
-    let outputs = c.write_number-third.ensures in
-    let count = c.write_number-start.ensures in
-    let cells = c.write_cells.ensures in
-    file_written_lem a.i a.o a.words.now sound a.buffer.now long c.if-buffer-length.false inputs outputs count cells
+    let counted = c.number-3.ensures in
+    let laid =
+    file_laid _ _ _ c.requires c.file_length-length.ensures c.if-buffer-length.false refl c.number.ensures c.number-2.ensures counted c.cells.ensures in
+    let lent = sym (c.cells.ensures.lent ∙ counted.lent ∙ c.number-2.ensures.lent ∙ c.number.ensures.lent) in
+    search (rules, laid, lent)

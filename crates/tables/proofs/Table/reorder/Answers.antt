@@ -8,7 +8,7 @@ use Rattle.tables.proofs.Reorders.{refused, accepted}
 use Rattle.tables.proofs.Table.reorder.Goals as goal
 
 pub returns-then-order : goal.returns-then-order
-returns-then-order c = refused (omega arith) c.refusal_no.ensures
+returns-then-order c = refused (omega arith) c.from.ensures
 
 pub returns : goal.returns
 unfolding reordered

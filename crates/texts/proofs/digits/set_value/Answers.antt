@@ -1,14 +1,14 @@
 -- A word is the set of its number.
-use mathlib.Core.Path.{refl, sym, ◌∙◌}
+use mathlib.Core.Path.{sym, ◌∙◌}
 use Rattle.texts.specs.Digits.{a_set, no_set}
 use Rattle.texts.proofs.digits.set_value.Goals as goal
 
-pub returns-in-Is : goal.returns-in-Is
-returns-in-Is c =
-    let is = sym c.hex_value.ensures ∙ c.in-Is.is in
-    rw is (a_set refl c.of_word.ensures)
+pub returns : goal.returns
+returns c =
+    let is = sym c.hex_value.ensures ∙ c.in_ok-n.was in
+    rw is (a_set c.of_word.ensures)
 
-pub returns-in-Bad : goal.returns-in-Bad
-returns-in-Bad c =
-    let is = sym c.hex_value.ensures ∙ c.in-Bad.is in
-    rw is (no_set refl c.empty.ensures)
+pub returns-in_err-n : goal.returns-in_err-n
+returns-in_err-n c =
+    let is = sym c.hex_value.ensures ∙ c.in_err-n.was in
+    rw (is, c.from_residual.ensures) no_set

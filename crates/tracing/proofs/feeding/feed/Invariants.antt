@@ -5,9 +5,7 @@ use Rattle.tracing.proofs.AllLines.{Rounds}
 use Rattle.tracing.proofs.feeding.feed.Given as goal
 
 abbrev pub invariant-loop-n : goal.invariant-loop-n
-invariant-loop-n l =
-    Rounds l.many l.initial.now l.initial.source l.bytes l.initial.line l.initial.rows l.initial.statics l.initial.out l.now l.source l.len l.line l.rows l.statics l.out
+invariant-loop-n l = Rounds l.many l.initial.now l.bytes l.initial.line l.initial.rows l.initial.statics l.initial.page l.now l.line l.rows l.statics l.page
 
 abbrev pub decreases-loop-n : goal.decreases-loop-n
-decreases-loop-n l =
-    remaining l.source l.bytes
+decreases-loop-n l = remaining l.now.source l.bytes

@@ -1,13 +1,11 @@
 -- The texts stand one behind the other.
-use Rattle.texts.proofs.Putting.{puts_more}
-use Rattle.tracing.specs.Texts.{instant_text}
 use borrow.Author.Rules.{rules}
+use Rattle.texts.proofs.Putting.{writes_then}
+use Rattle.tracing.specs.Texts.{instant_text}
 use Rattle.tracing.proofs.text.instant_line.Goals as goal
 
 pub returns : goal.returns
 unfolding instant_text
 returns c =
-    let state = puts_more (search rules) c.put_set-e.ensures c.put_rest.ensures in
-    let outputs = puts_more (search rules) c.put_set-c.ensures
-    (puts_more (search rules) c.put_byte-d.ensures state) in
-    puts_more (search rules) c.put_decimal-a.ensures (puts_more (search rules) c.put_byte-b.ensures outputs)
+    let state = writes_then c.byte-2.ensures (writes_then c.set-2.ensures (λ _. c.rest_mark.ensures)) in
+    writes_then c.decimal.ensures (writes_then c.byte.ensures (writes_then c.set.ensures state)) (search rules)

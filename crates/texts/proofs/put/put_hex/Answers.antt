@@ -1,8 +1,0 @@
--- So many digits hold any word.
-use Rattle.texts.proofs.Numerals.{hex_is}
-use borrow.Author.Rules.{rules}
-use Rattle.texts.proofs.put.put_hex.Goals as goal
-
-pub returns : goal.returns
-returns c =
-    rw (hex_is c.args.n (search rules)) at c.put_numeral.ensures
