@@ -1,5 +1,5 @@
-// Answers questions, a line each, on standard output, a line each. A line that is no question answers `bad line`. `questions::answer_line` has each answer as its
-// contract; reading and writing are the system's.
+// Answers questions, a line each, on standard output, a line each. A line that is no question answers `bad line`. `questions::answer_line` has each answer
+// as its contract; reading and writing are the system's.
 #![tactic(auto)]
 
 mod numbers;
@@ -48,6 +48,7 @@ fn turn<R: Read, W: Write>(
 
 fn run<R: Read, W: Write>(input: &mut R, output: &mut W, bytes: &mut [u8], line: &mut [u8]) {
     let mut source = texts::nothing_read();
+    // More turns than any input has: the loop ends where the input does.
     for _ in 0..u64::MAX {
         let Some(next) = turn(input, output, source, bytes, line) else {
             return;

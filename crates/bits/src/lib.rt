@@ -1,4 +1,5 @@
-// Sets of small numbers. `Bits` holds signals or halts, in so many words; a set of codes fits one word, and has functions of its own. No other crate opens a word.
+// Sets of small numbers. `Bits` holds signals or halts, in so many words; a set of codes fits one word, and has functions of its own. No other crate opens a
+// word of a set of signals or halts.
 #![tactic(auto)]
 
 ghost use Rattle.std.specs.Prelude.{◌≡◌, ◌||◌, ◌&&◌, ℕ, ◌+◌, ◌*◌, ◌/◌, ◌%◌, ◌^◌, ◌<◌, ◌≤◌, eqb, ltb, length, take, drop};

@@ -215,8 +215,8 @@ fn first_wrong(cutter: &mut Cutter<'_>, cover: &[u16], tabled: &mut [u8]) -> Res
     Ok(())
 }
 
-// Whether a cover is right, or the number of its first wrong table; the number of tables, where none is and an output or a register's operand lacks one. The work
-// columns hold nothing but zeros at entry, an entry for each cell.
+// Whether a cover is right, or the number of its first wrong table; the number of tables, where none is and an output or a register's operand lacks one. The
+// work columns hold nothing but zeros at entry, an entry for each cell.
 pub fn check(
     i: u32,
     o: u32,

@@ -159,6 +159,7 @@ fn read_cell(
     ensures { result ≡ read_cell s.now h.inputs h.cells x registers at }
 {
     let (k, next) = number::read_number(s, at)?;
+    // A test and no `map_err`: of what a closure there makes the proof learns nothing that it can use.
     if let Err(refusal) = judge_kind(FILE_KINDS, h.inputs, x, registers, k) {
         return Err(refusal.at(at));
     }

@@ -1,4 +1,5 @@
-// The reactions of a sheet by the rules. E is made anew of tick, the inputs and the emissions until nothing changes that the sheet asks for; the netlist is not run.
+// The reactions of a sheet by the rules. E is made anew of tick, the inputs and the emissions until nothing changes that the sheet asks for; the netlist is
+// not run.
 #![tactic(auto)]
 
 ghost use Rattle.std.specs.Prelude.{◌≡◌, true};
@@ -106,7 +107,8 @@ fn agreed(rows: &[Row], asks: Bits, state: Bits, event: Bits) -> Yield
 }
 
 // A moment for each event, each from the state after the one before. The emissions and the states go to the first places of the lent slices; the last state
-// comes back. `run::Ready::clocks` is this loop with another step: one loop for both would take a trait and a struct of each step's columns, which is more to read.
+// comes back. `run::Ready::clocks` is this loop with another step: one loop for both would take a trait and a struct of each step's columns, which is more
+// to read.
 pub fn moments(
     rows: &[Row],
     asks: Bits,

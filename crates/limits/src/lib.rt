@@ -1,5 +1,5 @@
-// The limits, each with its number in one place, and each asked by one test before the next of its kind is taken: "At most: 256 statements, nesting level 64 (the
-// root is level 1), 63 halts, 64 signals with tick, 8 traps one in another, 1,024 cells". The level is counted down where statements are read.
+// The limits, each with its number in one place, and each asked by one test before the next of its kind is taken: "At most: 256 statements, nesting level 64
+// (the root is level 1), 63 halts, 64 signals with tick, 8 traps one in another, 1,024 cells". The level is counted down where statements are read.
 #![tactic(auto)]
 
 ghost use Rattle.std.specs.Prelude.{◌≡◌, ◌||◌, ◌+◌, leb, ltb};

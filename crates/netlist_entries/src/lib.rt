@@ -1,5 +1,5 @@
-// The entries that take a netlist, in a file or as I, O and a word for each cell. C calls one for each form; what follows the check they share. `written` and `handed`
-// serve the compiled netlist of a sheet as well.
+// The entries that take a netlist, in a file or as I, O and a word for each cell. C calls one for each form; what follows the check they share. `written`
+// and `handed` serve the compiled netlist of a sheet as well.
 #![tactic(auto)]
 
 ghost use Rattle.std.specs.Prelude.{◌≡◌, ◌≤◌, map, length};

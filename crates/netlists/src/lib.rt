@@ -71,6 +71,7 @@ pub fn judge_cells(i: u32, o: u32, words: &[u64]) -> Result<Header, Fault>
     if limits::header_full(i, o) {
         return Err(Refusal::Count.at(0));
     }
+    // A test and no `map_err`: of what a closure there makes the proof learns nothing that it can use.
     if let Err(refusal) = files::judge_count(i, o, words.len()) {
         return Err(refusal.at(0));
     }

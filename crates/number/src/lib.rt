@@ -77,8 +77,8 @@ impl CellNo {
     }
 }
 
-// The paper's "Numbers returned", 1 to 16 in its order, and those that the requests add, 17 to 22, by the names that they have there. These stand here whether or
-// not their request has landed, so that none adds a case to a type that every crate goes by. A refusal's number is the variant's own.
+// The paper's "Numbers returned", 1 to 16 in its order, and those that the requests add, 17 to 22, by the names that they have there. These stand here
+// whether or not their request has landed, so that none adds a case to a type that every crate goes by. A refusal's number is the variant's own.
 #[derive(Clone, Copy, Debug, PartialEq, Eq, Hash)]
 pub enum Refusal {
     Short = 1,

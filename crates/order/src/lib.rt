@@ -200,8 +200,8 @@ impl<'a> Search<'a> {
     }
 }
 
-// An order of the cells, in the first places of `order`, or the lowest cell on a cycle. What `order` holds at entry does not matter; on a cycle it is left as the
-// search left it. No number of cells makes the calls nest deeper.
+// An order of the cells, in the first places of `order`, or the lowest cell on a cycle. What `order` holds at entry does not matter; on a cycle it is left
+// as the search left it. No number of cells makes the calls nest deeper.
 pub fn order_cells(cells: &[u64], order: &mut [u16]) -> Result<(), Cycle>
     requires { Orderable (cells_of cells.now) order.old }
     ensures { Answers (cells_of cells.now) order.new result }

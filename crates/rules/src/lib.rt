@@ -18,8 +18,8 @@ use number::{HaltNo, StmtNo};
 use sets::Both;
 use sheet::{Binary, Head, Leaf, Row, Unary};
 
-// "A statement yields emissions, a code and halts." A halt stands at its bit of the state. The code has a word of its own, since a struct without gaps is handed
-// on faster.
+// "A statement yields emissions, a code and halts." A halt stands at its bit of the state. The code has a word of its own, since a struct without gaps is
+// handed on faster.
 #[derive(Clone, Copy, Debug, PartialEq, Eq)]
 pub struct Yield {
     pub emits: Bits,

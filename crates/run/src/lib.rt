@@ -165,8 +165,8 @@ impl<'a> Ready<'a> {
         w
     }
 
-    // A clock for each event, each from the state after the one before. The outputs and the states go to the first places of the lent slices; the last state
-    // comes back.
+    // A clock for each event, each from the state after the one before; `interpreter::moments` says why the two loops are two. The outputs and the states go
+    // to the first places of the lent slices; the last state comes back.
     pub fn clocks(
         &self,
         state: Bits,

@@ -61,14 +61,18 @@ module _ (b : Both) (t : Stmt) (low : Low t) (m : Means b t) where
   unfolding entry_of
   entry_is = rw (k_is, r_is)
 
--- and are read back from it
-pub entry_means : {statics : List Both} {n : StmtNo} {b : Both} {t : Stmt} → Low t → Entered statics n t → b ≡ entry_at statics n → Means b t
+-- and are read back from it, as codes and no more
+pub entry_means : {statics : List Both} {n : StmtNo} {t : Stmt} → Low t → Entered statics n t
+    → Means (record { k = (entry_at statics n).k % code_span; r = (entry_at statics n).r % code_span }) t
 unfolding entry_of
-entry_means {b = b} {t} low at is =
-    let same : b ≡ entry_of t = is ∙ at.entry in
+entry_means {statics} {n} {t} low at =
+    let K_word : ℕ = word_of max_codes (K t) in
+    let R_word : ℕ = word_of max_codes (R t) in
+    let k_same : K_word % code_span ≡ K_word = omega (arith, word_small max_codes (K t)) in
+    let r_same : R_word % code_span ≡ R_word = omega (arith, word_small max_codes (R t)) in
     record {
-      starts = ap (λ (x : Both). has x.k) same ∙ has_word max_codes (K t) (K_low t low);
-      resumes = ap (λ (x : Both). has x.r) same ∙ has_word max_codes (R t) (R_low t low);
+      starts = ap (λ (x : Both). has (x.k % code_span)) at.entry ∙ (ap has k_same ∙ has_word max_codes (K t) (K_low t low));
+      resumes = ap (λ (x : Both). has (x.r % code_span)) at.entry ∙ (ap has r_same ∙ has_word max_codes (R t) (R_low t low));
     }
 
 -- filling changes nothing before the statement, nothing past it, nor how many entries there are

@@ -20,11 +20,11 @@ use Rattle.sets.specs.declared.Both.{Both}
 use Rattle.sets.specs.Codes.{Codes}
 use Rattle.sets.specs.Static.{K, R}
 use Rattle.sets.specs.Faults.{or_else, instant, twice}
-use Rattle.sets.specs.Words.{code_span, Low, Stands, entry_at, Entered, Kept, Means}
+use Rattle.sets.specs.Words.{code_span, Low, Stands, Entered, Kept, Means, Reads}
 use Rattle.sets.specs.Leads.{meet, leads_one, leads_left, leads_right, is_loop, is_x, first_led}
 use Rattle.sets.proofs.Words.{none_is}
 use Rattle.sets.proofs.Climbs.{led_twice}
-use Rattle.sets.proofs.Columns.{both_small, entry_means}
+use Rattle.sets.proofs.Columns.{both_small}
 use Rattle.sets.proofs.Standing.{OnePart, TwoParts, stands_leaf, stands_one, stands_two}
 use Rattle.std.specs.Prelude.{Option, Some, None}
 use Rattle.sheet.specs.declared.Row.{Row}
@@ -73,8 +73,8 @@ Sought f rows statics m r = (x : Stands rows m) → Kept statics m x.stmt → r 
 
 -- the rows and the column of a statement and of its parts
 module _ {rows : List Row} (statics : List Both) {n : StmtNo} (s : Stands rows n) (kept : Kept statics n s.stmt) where
-  own_means : {b : Both} → b ≡ entry_at statics n → Means b s.stmt
-  own_means reads = entry_means s.low (kept_own statics n s.stmt kept) reads
+  own_means : {b : Both} → Reads statics n b → Means b s.stmt
+  own_means reads = reads.means s.stmt s.low (kept_own statics n s.stmt kept)
 
   kept_one : {u : Unary} (k : OnePart s u) → Kept statics (further n 1) k.part.stmt
   unfolding Kept
@@ -93,13 +93,13 @@ module _ {rows : List Row} (statics : List Both) {n : StmtNo} (s : Stands rows n
   unfolding instant
   instant_none e = sym (ap (instant n) (stands_leaf s e))
 
-  body_test : {u : Unary} {b : Both} {r : Bool} (k : OnePart s u) → b ≡ entry_at statics (further n 1) → r ≡ (is_loop u && has b.k 0)
+  body_test : {u : Unary} {b : Both} {r : Bool} (k : OnePart s u) → Reads statics (further n 1) b → r ≡ (is_loop u && has b.k 0)
       → (is_loop u && K k.part.stmt 0) ≡ r
   body_test {u} k reads is =
-      let m = entry_means k.part.low (kept_own statics (further n 1) k.part.stmt (kept_one k)) reads in
+      let m = reads.means k.part.stmt k.part.low (kept_own statics (further n 1) k.part.stmt (kept_one k)) in
       sym (is ∙ (λ i. is_loop u && m.starts i 0))
 
-  pub instant_here : {u : Unary} {b : Both} {r : Bool} → (row_at rows n).head ≡ One u → b ≡ entry_at statics (further n 1)
+  pub instant_here : {u : Unary} {b : Both} {r : Bool} → (row_at rows n).head ≡ One u → Reads statics (further n 1) b
       → r ≡ (is_loop u && has b.k 0)
       → r ≡ true → Some n ≡ instant n s.stmt
   unfolding pick
@@ -109,7 +109,7 @@ module _ {rows : List Row} (statics : List Both) {n : StmtNo} (s : Stands rows n
       sym (ap (instant n) k.is ∙ instant_one n u p
       ∙ ap (λ (x : Bool). pick x (Some n) (instant (further n 1) p)) (body_test k reads is ∙ yes_it_is))
 
-  pub instant_on : {u : Unary} {b : Both} {r : Bool} {f : Option StmtNo} → (row_at rows n).head ≡ One u → b ≡ entry_at statics (further n 1)
+  pub instant_on : {u : Unary} {b : Both} {r : Bool} {f : Option StmtNo} → (row_at rows n).head ≡ One u → Reads statics (further n 1) b
       → r ≡ (is_loop u && has b.k 0) → r ≡ false → Sought instant rows statics (further n 1) f → f ≡ instant n s.stmt
   unfolding pick
   instant_on {u} e reads is not_it rest =
@@ -146,7 +146,7 @@ module _ {rows : List Row} (statics : List Both) {n : StmtNo} (s : Stands rows n
       ∙ sym (instant_two k left ∙ ap (λ (x : Option StmtNo). or_else x second) is)
 
   -- TWICE, going down with F
-  module _ (F : Codes) {own : Both} {r : Bool} (reads : own ≡ entry_at statics n)
+  module _ (F : Codes) {own : Both} {r : Bool} (reads : Reads statics n own)
       (test : own.r < code_span → r ≡ (is_x (row_at rows n).head && meet max_codes (has own.r) F)) where
     led_test : r ≡ Led F s.stmt
     led_test = test (both_small own s.stmt s.low (own_means reads)).1 ∙ (λ i. is_x (head_of_lem rows n s.first s.stmt s.holds i) && meet max_codes ((own_means reads).resumes i) F)
@@ -167,21 +167,21 @@ module _ {rows : List Row} (statics : List Both) {n : StmtNo} (s : Stands rows n
         ∙ sym (ap (first_led F n) k.is ∙ led_one_part F n u p (ap (Led F) (sym k.is) ∙ sym led_test ∙ no_x))
 
     led_two : {b : Binary} {G : Codes} {f : Option StmtNo} {q : Both} (k : TwoParts s b) → r ≡ false
-        → q ≡ entry_at statics (row_at rows (further n 1)).end
+        → Reads statics (row_at rows (further n 1)).end q
         → ((v : Stmt) → Low v → Means q v → G ≡ leads_left b v F) → Sought (first_led G) rows statics (further n 1) f
         → first_led F n s.stmt
         ≡ or_else f (first_led (leads_right b k.left.stmt F) (further n (1 + size k.left.stmt)) k.right.stmt)
     led_two {b} {q = q} k no_x second leads left =
         let p : Stmt = k.left.stmt in
         let v : Stmt = k.right.stmt in
-        let m : Means q v = entry_means k.right.low (kept_own statics (row_at rows (further n 1)).end v (kept_right k)) second in
+        let m : Means q v = second.means k.right.stmt k.right.low (kept_own statics (row_at rows (further n 1)).end v (kept_right k)) in
         let other : Option StmtNo = first_led (leads_right b p F) (further n (1 + size p)) v in
         let own = left k.left (kept_left k) ∙ ap (λ (A : Codes). first_led A (further n 1) p) (leads v k.right.low m) in
         ap (first_led F n) k.is ∙ led_two_parts F n b p v (ap (Led F) (sym k.is) ∙ sym led_test ∙ no_x)
         ∙ sym (ap (λ (x : Option StmtNo). or_else x other) own)
 
     pub led_left : {b : Binary} {G : Codes} {f : Option StmtNo} {q : Both} {m : StmtNo} → r ≡ false → (row_at rows n).head ≡ Two b
-        → q ≡ entry_at statics (row_at rows (further n 1)).end → ((v : Stmt) → Low v → Means q v → G ≡ leads_left b v F)
+        → Reads statics (row_at rows (further n 1)).end q → ((v : Stmt) → Low v → Means q v → G ≡ leads_left b v F)
         → Sought (first_led G) rows statics (further n 1) f
         → f ≡ Some m → Some m ≡ first_led F n s.stmt
     unfolding or_else
@@ -191,16 +191,16 @@ module _ {rows : List Row} (statics : List Both) {n : StmtNo} (s : Stands rows n
         sym (led_two k no_x second leads left ∙ ap (λ (x : Option StmtNo). or_else x other) is)
 
     pub led_right : {b : Binary} {G H : Codes} {f g : Option StmtNo} {p q : Both} → r ≡ false → (row_at rows n).head ≡ Two b
-        → q ≡ entry_at statics (row_at rows (further n 1)).end → ((v : Stmt) → Low v → Means q v → G ≡ leads_left b v F)
+        → Reads statics (row_at rows (further n 1)).end q → ((v : Stmt) → Low v → Means q v → G ≡ leads_left b v F)
         → Sought (first_led G) rows statics (further n 1) f
-        → f ≡ None → p ≡ entry_at statics (further n 1) → ((t : Stmt) → Low t → Means p t → H ≡ leads_right b t F)
+        → f ≡ None → Reads statics (further n 1) p → ((t : Stmt) → Low t → Means p t → H ≡ leads_right b t F)
         → Sought (first_led H) rows statics (row_at rows (further n 1)).end g → g ≡ first_led F n s.stmt
     unfolding or_else
     led_right {b} {p = p} no_x e second leads left is first leads_on right =
         let k : TwoParts s b = stands_two s e in
         let t : Stmt = k.left.stmt in
         let v : Stmt = k.right.stmt in
-        let m : Means p t = entry_means k.left.low (kept_own statics (further n 1) t (kept_left k)) first in
+        let m : Means p t = first.means k.left.stmt k.left.low (kept_own statics (further n 1) t (kept_left k)) in
         let other : Option StmtNo = first_led (leads_right b t F) (further n (1 + size t)) v in
         right k.right (kept_right k) ∙ (λ i. first_led (leads_on t k.left.low m i) (k.second i) v)
         ∙ sym (led_two k no_x second leads left ∙ ap (λ (x : Option StmtNo). or_else x other) is)

@@ -92,3 +92,9 @@ pub record Wrote (n : StmtNo) (b r : Both) (before after : List Both) : Type 0 w
 pub record Filled (n : StmtNo) (t : Stmt) (b : Both) (before after : List Both) : Type 0 where
   pub answer : Means b t
   pub column : after ≡ filled before n t
+
+-- what is read at n: sets of codes; K and R, where the entry is that of a statement
+pub record Reads (statics : List Both) (n : StmtNo) (b : Both) : Type 0 where
+  pub k_small : b.k < code_span
+  pub r_small : b.r < code_span
+  pub means : (t : Stmt) → Low t → Entered statics n t → Means b t

@@ -11,7 +11,7 @@ ghost use Rattle.sheet.specs.declared.Binary.{Binary};
 ghost use Rattle.sets.specs.Codes.{join, when, maxima, replaced, less0, with0, caught_codes};
 ghost use Rattle.sets.specs.Static.{K, R, has_halts};
 ghost use Rattle.sets.specs.Faults.{instant, twice};
-ghost use Rattle.sets.specs.Words.{code_span, no_sets, entry_at, LowLeaf, Low, Stands, Entered, Kept, Means, Wrote, Filled};
+ghost use Rattle.sets.specs.Words.{code_span, no_sets, LowLeaf, Low, Stands, Entered, Kept, Means, Wrote, Filled, Reads};
 ghost use Rattle.sets.specs.Leads.{meet, UpTo, at_least, leads_sequence, leads_trap, leads_parallel, leads_one, leads_left, leads_right};
 ghost use Rattle.sets.specs.Leads.{is_loop, is_x, first_led};
 
@@ -238,12 +238,16 @@ pub fn fill(rows: &[Row], statics: &mut [Both], n: StmtNo) -> Both
     }
 }
 
-// The entry of statement n.
+// The entry of statement n: whatever the column holds there, sets of codes.
 pub fn sets_of(statics: &[Both], n: StmtNo) -> Both
     requires { of_stmt n < length statics.now }
-    ensures { result ≡ entry_at statics.now n }
+    ensures { Reads statics.now n result }
 {
-    statics[n.number() as usize]
+    let entry = statics[n.number() as usize];
+    Both {
+        k: entry.k % CODE_SPAN,
+        r: entry.r % CODE_SPAN,
+    }
 }
 
 // K or R of statement n: the codes that it may give.
@@ -343,8 +347,8 @@ fn leads_left(b: Binary, q: Both, f: u64) -> u64
     }
 }
 
-// Into the right of a sequence they lead on as they are, since it has the codes of the whole; but none behind a left side that cannot end at once: no loop further out
-// starts what stands there.
+// Into the right of a sequence they lead on as they are, since it has the codes of the whole; but none behind a left side that cannot end at once: no loop
+// further out starts what stands there.
 fn leads_right(b: Binary, p: Both, f: u64) -> u64
     ensures { (t : Stmt) → Low t → Means p t → has result ≡ leads_right b t (has f) }
 {

@@ -89,8 +89,8 @@ impl Marks {
     }
 }
 
-// The signal that an operand names: SCOPE. Every number read in this file is taken apart in the paper's named form, a `let .. else` with a `return`, and not by `?`.
-// The bytes, the Env and the marks go apart through the readers, since each part has marks of its own, and some an Env of their own.
+// The signal that an operand names: SCOPE. Every number read in this file is taken apart in the paper's named form, a `let .. else` with a `return`, and not
+// by `?`. The bytes, the Env and the marks go apart through the readers, since each part has marks of its own, and some an Env of their own.
 fn read_signal(s: &[u8], e: Env, m: Marks) -> Result<(SignalNo, Marks), Fault>
     ensures { result ≡ signal_at s.now (around e) m }
 {
@@ -118,8 +118,8 @@ fn emit_head(s: &[u8], e: Env, m: Marks) -> Result<(Head, Marks), Fault>
     Ok((Head::Zero(Leaf::Emit(x)), next))
 }
 
-// This head and the next differ in the kind alone. One function that takes the kind as a closure would be no plainer: its proof would have to name what the closure
-// makes.
+// This head and the next differ in the kind alone. One function that takes the kind as a closure would be no plainer: its proof would have to name what the
+// closure makes.
 fn present_head(s: &[u8], e: Env, m: Marks) -> Result<(Head, Marks), Fault>
     ensures { result ≡ naming (λ x. Head.Two (Binary.Present x)) (signal_at s.now (around e) m) }
 {

@@ -19,8 +19,8 @@ const READ: usize = 1024;
 
 const OUT: usize = 65600;
 
-// The step of a line; of many traces, a line `--` begins the next. The two programs differ in this line alone, so a flag tells them apart: a step handed in as a closure
-// would have to promise all that `Does` says.
+// The step of a line; of many traces, a line `--` begins the next. The two programs differ in this line alone, so a flag tells them apart: a step handed in
+// as a closure would have to promise all that `Does` says.
 fn turn(
     many: bool,
     trace: Trace,
@@ -167,6 +167,7 @@ fn answer_reads<R: Read, W: Write>(
         trace: Trace::Sheet,
         source: texts::nothing_read(),
     };
+    // More turns than any input has: the loop ends where the input does.
     for _ in 0..u64::MAX {
         now = answer_read(input, output, many, now, bytes, line, rows, statics, page);
         if !now.goes_on(many) {
