@@ -41,7 +41,7 @@ use Rattle.answers.specs.Answering.{Lends, is_written}
 use Rattle.answers.specs.Code.{Says, FileSaid}
 use Rattle.answers.proofs.Saying.{said}
 use Rattle.std.specs.Prelude.{Ok, Err}
-use Rattle.sets.specs.declared.Both.{Both}
+use Rattle.sets.specs.declared.Entry.{Entry}
 use Rattle.sheet.specs.declared.Row.{Row}
 
 module _ {w : Netlist} {lent lent' : List ℕ} where
@@ -100,7 +100,7 @@ wrote_none lent {f} was lends w =
     w
 
 -- the netlist of one that is accepted
-module _ {s : List ℕ} {rows : List Row} {statics : List Both} {cells : List ℕ} {c : Counts} {n : ℕ} (a : Compiled_as s c n rows statics cells)
+module _ {s : List ℕ} {rows : List Row} {statics : List Entry} {cells : List ℕ} {c : Counts} {n : ℕ} (a : Compiled_as s c n rows statics cells)
     (enough : length cells ≡ max_cells) where
   cells_are : cells_of (take n cells) ≡ sheet_netlist a.read
   cells_are = ap (λ (k : ℕ). cells_of (take k cells)) a.count ∙ a.own.means

@@ -10,7 +10,7 @@ ghost use Rattle.answers.specs.Code.{Says, FileSaid};
 
 use crate::{numbers, ordering, output, words};
 use krankovel::Bits;
-use sets::Both;
+use sets::Entry;
 use sheet::{Counts, Row};
 use texts::Page;
 
@@ -97,7 +97,7 @@ fn write_file(bytes: &[u8], lent: &mut [u8], page: &mut Page)
     ensures { (n : ℕ) → Lends n lent.old → Says (Questions.write bytes.now n) page.old page.new }
 {
     let mut rows = [Row::empty(); limits::MAX_STATEMENTS];
-    let mut statics = [Both::empty(); limits::MAX_STATEMENTS];
+    let mut statics = [Entry::empty(); limits::MAX_STATEMENTS];
     let mut cells = [0u64; limits::MAX_CELLS];
     match compiler::compile(bytes, &mut rows, &mut statics, &mut cells) {
         Err(f) => output::without_file(verdicts::refusal(f), page),

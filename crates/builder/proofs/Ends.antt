@@ -37,7 +37,7 @@ use Rattle.builder.specs.Walking.{Named, InShape, Buildable, Does}
 use Rattle.builder.specs.Contract.{OfSheet, SomeSheet, room_for, DoesNetlist}
 use Rattle.number.specs.declared.Fault.{Fault}
 use Rattle.std.specs.Prelude.{Result, Ok, Err}
-use Rattle.sets.specs.declared.Both.{Both}
+use Rattle.sets.specs.declared.Entry.{Entry}
 use Rattle.sheet.specs.declared.Row.{Row}
 
 -- The loops: what is left to be written, once written, makes the whole. First that over the inputs, at signal s:
@@ -184,7 +184,7 @@ named i n (two b p q) h c = (binary b c.0, named i n p h c.1, named i n q h c.2)
     binary (Present s) c = omega arith
     binary Parallel c = tt
 
-module _ {rows : List Row} {ms : List Both} {I n O : ℕ} {t : Stmt} (is : OfSheet rows ms I n O t) where
+module _ {rows : List Row} {ms : List Entry} {I n O : ℕ} {t : Stmt} (is : OfSheet rows ms I n O t) where
   pub sheet_fit : InShape ms (stmt_no 0) t
   sheet_fit =
       record {
@@ -196,7 +196,7 @@ module _ {rows : List Row} {ms : List Both} {I n O : ℕ} {t : Stmt} (is : OfShe
   pub sheet_signals : (I < n) × (n ≤ max_signals)
   sheet_signals = (omega (arith, is.signals), omega (arith, is.signals, is.proper.signals))
 
-pub sheet_ready : {rows : List Row} {ms : List Both} {ls : List ℕ} {I n : ℕ} (w : SomeSheet rows ms I n) → length ls ≡ max_signals → Buildable rows ms ls (stmt_no 0) (3 + n)
+pub sheet_ready : {rows : List Row} {ms : List Entry} {ls : List ℕ} {I n : ℕ} (w : SomeSheet rows ms I n) → length ls ≡ max_signals → Buildable rows ms ls (stmt_no 0) (3 + n)
 sheet_ready {n = n} w long =
     let few : n ≤ max_signals = (sheet_signals w.is).1 in
     record {
@@ -210,7 +210,7 @@ sheet_ready {n = n} w long =
     }
 
 -- the whole
-pub netlist_does : {rows : List Row} {ms : List Both} {l l₃ l₄ ls : List ℕ} {c c' : Column} {b : Returned} {r : Result ℕ Fault} (I n : ℕ)
+pub netlist_does : {rows : List Row} {ms : List Entry} {l l₃ l₄ ls : List ℕ} {c c' : Column} {b : Returned} {r : Result ℕ Fault} (I n : ℕ)
     → c.cells.now ≡ sets (with_inputs I l) (1 + n) (map word (boot_cells n)) → c.count ≡ 3 + n
     → Does (record {
       rows = rows;

@@ -1,7 +1,7 @@
 -- The whole netlist as the file format and a run want it: the cells 0 to I+1, the kinds of the others, operands, registers, counts.
 use mathlib.Core.Path.{◌≡◌, refl, sym, ◌∙◌, ap, subst}
 use mathlib.Core.List.{List, ◌∷◌, ◌++◌, map, append_assoc}
-use Prim.Native.Nat.{ℕ, zero, suc, ◌+◌, ◌≤◌, ◌<◌}
+use Prim.Native.Nat.{ℕ, zero, suc, ◌+◌, ◌*◌, ◌≤◌, ◌<◌}
 use native.Mathlib.Omega.{arith}
 use native.Mathlib.Nat.{not-suc-le-zero, le_of_suc-le-suc, add-zero, suc-add, add-suc}
 use lib.ListN.{length, get_or, take, drop, length-append, length-map, replicate}
@@ -11,9 +11,11 @@ use Rattle.number.specs.declared.CellNo.{CellNo}
 use Rattle.number.specs.declared.HaltNo.{HaltNo}
 use Rattle.limits.specs.Limits.{max_signals, max_registers}
 use Rattle.sheet.specs.declared.Leaf.TheVariants.{Halt}
-use Rattle.sheet.specs.Stmt.{Stmt, leaf, halt_count, local_count}
+use Rattle.sheet.specs.Stmt.{Stmt, leaf, size, halt_count, local_count}
 use Rattle.sheet.specs.Form.{Proper}
-use Rattle.sheet.proofs.Notions.{Numbered, Scoped, proper_scoped}
+use Rattle.sheet.proofs.Notions.{Numbered, Scoped, proper_scoped, proper_exits}
+use Rattle.sets.specs.Words.{Low as LowLevels}
+use Rattle.sets.proofs.Bounds.{exits_low}
 use Rattle.cells.specs.declared.Cell.{Cell}
 use Rattle.cells.specs.declared.Cell.TheVariants.{Low, High, Input, Gate, Register}
 use Rattle.cells.specs.declared.Gate.TheVariants.{Or, Butnot}
@@ -25,10 +27,12 @@ use Rattle.cells.proofs.Counting.{registers_append}
 use Rattle.gates.specs.Rows.{code}
 use Rattle.gates.proofs.Operands.{NetsBelow}
 use Rattle.parts.specs.Equations.{Built, list_of, build_halt, build}
+use Rattle.parts.specs.Contract.{own_cells}
 use Rattle.builder.specs.Netlist.{input_cells, signal_cells, no_lists, root_of, boot_cells, netlist}
 use Rattle.builder.proofs.Ends.{length_inputs, length_signals}
 use Rattle.builder.proofs.Gates.{Gates, gates_nil, gates_cons, gates_append, build_gates}
 use Rattle.builder.proofs.Closed.{build_within}
+use Rattle.builder.proofs.Few.{sized}
 use Rattle.builder.proofs.Registers.{of_build}
 use Rattle.builder.proofs.Places.{Takes, Part, part_stands, part_number}
 
@@ -222,7 +226,7 @@ stored_whole cs l h =
     let long : length (map word cs) ≡ length cs = length-map cs word in
     rw (sets-eq (map word cs) l 0 (omega arith)) (take_at (map word cs) (drop (0 + length (map word cs)) l) (length cs) long)
 
--- Of a sheet: its registers are not too many, and it is closed.
+-- Of a sheet: its registers are not too many, it is closed, and it has at most `own_cells` for each statement besides the cells of the signals.
 module _ {I O : ℕ} {t : Stmt} (h : Proper I O t) where
   pub few_registers : registers (netlist I (O + local_count t) t) ≤ max_registers
   few_registers = omega (arith, netlist_registers I (O + local_count t) t, h.halts)
@@ -231,3 +235,10 @@ module _ {I O : ℕ} {t : Stmt} (h : Proper I O t) where
   sheet_closed =
       let all : 1 + I + O + local_count t ≡ 1 + I + (O + local_count t) = omega arith in
       netlist_closed I (O + local_count t) t (subst (λ (n : ℕ). Scoped I n t) all (proper_scoped h))
+
+  pub few_cells : length (netlist I (O + local_count t) t) ≤ 4 + I + (O + local_count t) + own_cells * size t
+  unfolding root_of
+  few_cells =
+      let U : ℕ = O + local_count t in
+      let low_exits : LowLevels t = exits_low 0 t (omega arith) (proper_exits h) in
+      omega (arith, netlist_length I U t, (sized t (3 + (1 + I + U)) (cell_no (2 + (1 + I + U))) high low no_lists low_exits).few)

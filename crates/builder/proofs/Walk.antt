@@ -36,11 +36,11 @@ use Rattle.parts.specs.Contract.{nets, own_cells, Builds, open_one, open_two, go
 use Rattle.parts.proofs.Parts.{builds_as, one_builds, two_builds}
 use Rattle.builder.specs.Walking.{Named, InShape, Buildable, Task, Does}
 use Rattle.builder.proofs.Few.{gate_few, sized}
-use Rattle.sets.specs.declared.Both.{Both}
+use Rattle.sets.specs.declared.Entry.{Entry}
 use Rattle.sheet.specs.declared.Row.{Row}
 
 -- what the code asks of a statement it may ask of the parts
-module _ {ms : List Both} {n : StmtNo} where
+module _ {ms : List Entry} {n : StmtNo} where
   fit_part : (u : Unary) (p : Stmt) → InShape ms n (one u p) → InShape ms (further n 1) p
   unfolding Low Named Kept
   fit_part u p f = record { low = f.low; named = f.named.1; kept = f.kept.1 }
@@ -59,7 +59,7 @@ module _ {ms : List Both} {n : StmtNo} where
   entry b p q f = f.kept.0
 
 -- The walk of a part that stands at row j and takes the wires v.
-abbrev inner : List Row → List Both → StmtNo → Wires → Column → List ℕ → Task
+abbrev inner : List Row → List Entry → StmtNo → Wires → Column → List ℕ → Task
 inner rows ms j v c ls = record { rows = rows; statics = ms; stmt = j; wires = v; column = c; lists = ls }
 
 -- What the walk is to build where the statement t stands.
@@ -132,7 +132,7 @@ does_few {w} a p h f d =
     let v : Wires = w.wires in
     omega (arith, (d.does a p h f).wrote.counted, (sized p w.column.count v.go v.res v.kill (nets w.lists) f.low).few)
 
-module _ {rows : List Row} {ms : List Both} {ls : List ℕ} {n : StmtNo} {count : ℕ} (ready : Buildable rows ms ls n count) where
+module _ {rows : List Row} {ms : List Entry} {ls : List ℕ} {n : StmtNo} {count : ℕ} (ready : Buildable rows ms ls n count) where
   pub ready_within : of_stmt n < length rows
   ready_within = within rows n ready.first ready.stmt ready.holds
 

@@ -14,17 +14,17 @@ use Rattle.cells.specs.declared.Cell.{Cell}
 use Rattle.cells.specs.Words.{word}
 use Rattle.builder.specs.Netlist.{netlist}
 use Rattle.number.specs.declared.Fault.{Fault}
-use Rattle.sets.specs.declared.Both.{Both}
+use Rattle.sets.specs.declared.Entry.{Entry}
 use Rattle.sheet.specs.declared.Row.{Row}
 
 -- the rows and the column of static sets are those of a sheet with I inputs, O outputs and the statement t, and n signals in all
-pub record OfSheet (rows : List Row) (ms : List Both) (I n O : ℕ) (t : Stmt) : Type 0 where
+pub record OfSheet (rows : List Row) (ms : List Entry) (I n O : ℕ) (t : Stmt) : Type 0 where
   pub proper : Proper I O t
   pub signals : n ≡ 1 + I + O + local_count t
   pub holds : Holds rows (stmt_no 0) (halt_no 0) t
   pub kept : Kept ms (stmt_no 0) t
 
-pub record SomeSheet (rows : List Row) (ms : List Both) (I n : ℕ) : Type 0 where
+pub record SomeSheet (rows : List Row) (ms : List Entry) (I n : ℕ) : Type 0 where
   pub outputs : ℕ
   pub stmt : Stmt
   pub is : OfSheet rows ms I n outputs stmt
@@ -39,5 +39,5 @@ pub record Whole (cs : List Cell) (l l' : List ℕ) (r : Result ℕ Fault) : Typ
   pub answer : r ≡ room_for (length cs)
   pub stored : l' ≡ sets l 0 (map word cs)
 
-pub record DoesNetlist (rows : List Row) (ms : List Both) (I n : ℕ) (l l' : List ℕ) (r : Result ℕ Fault) : Type 0 where
+pub record DoesNetlist (rows : List Row) (ms : List Entry) (I n : ℕ) (l l' : List ℕ) (r : Result ℕ Fault) : Type 0 where
   pub does : (O : ℕ) (t : Stmt) → OfSheet rows ms I n O t → Whole (netlist I (O + local_count t) t) l l' r

@@ -13,7 +13,7 @@ use Rattle.gates.specs.declared.Column.{Column}
 use Rattle.parts.specs.declared.Wires.{Wires}
 use Rattle.parts.specs.declared.Returned.{Returned}
 use Rattle.parts.specs.Contract.{nets, own_cells, Builds, LeafNamed, UnaryNamed, BinaryNamed}
-use Rattle.sets.specs.declared.Both.{Both}
+use Rattle.sets.specs.declared.Entry.{Entry}
 use Rattle.sheet.specs.declared.Row.{Row}
 
 -- the signals that a statement and its parts name have a list, and a cell
@@ -23,13 +23,13 @@ Named (one u p) = UnaryNamed u × Named p
 Named (two b p q) = BinaryNamed b × Named p × Named q
 
 -- what the code asks of a statement with the number n: its exits' levels are codes, its signals are named so, and K and R stand in their column
-pub record InShape (ms : List Both) (n : StmtNo) (t : Stmt) : Type 0 where
+pub record InShape (ms : List Entry) (n : StmtNo) (t : Stmt) : Type 0 where
   pub low : Low t
   pub named : Named t
   pub kept : Kept ms n t
 
 -- some statement stands at row n, there is a list for each signal, and the cells can be counted
-pub record Buildable (rows : List Row) (ms : List Both) (ls : List ℕ) (n : StmtNo) (count : ℕ) : Type 0 where
+pub record Buildable (rows : List Row) (ms : List Entry) (ls : List ℕ) (n : StmtNo) (count : ℕ) : Type 0 where
   pub first : HaltNo
   pub stmt : Stmt
   pub holds : Holds rows n first stmt
@@ -41,7 +41,7 @@ pub record Buildable (rows : List Row) (ms : List Both) (ls : List ℕ) (n : Stm
 -- what the walk is to build: the rows and the static sets, the statement's number, what the statement takes, and the columns before it
 pub record Task : Type 0 where
   pub rows : List Row
-  pub statics : List Both
+  pub statics : List Entry
   pub stmt : StmtNo
   pub wires : Wires
   pub column : Column

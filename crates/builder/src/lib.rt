@@ -16,13 +16,13 @@ use gates::Column;
 use limits::MAX_SIGNALS;
 use number::{CellNo, Fault, Refusal, SignalNo, StmtNo};
 use parts::{Returned, Wires};
-use sets::Both;
+use sets::Entry;
 use sheet::{Head, Row};
 
 // Statement n: its cells, the signals' lists, sel and codes. `statics` has K and R of each statement.
 fn statement(
     rows: &[Row],
-    statics: &[Both],
+    statics: &[Entry],
     column: &mut Column,
     lists: &mut [u16],
     n: StmtNo,
@@ -102,7 +102,7 @@ fn head_cells(cells: &mut [u64], inputs: u16, signals: u16)
 // The netlist of the sheet whose rows and static sets these are; `signals` counts tick, inputs, outputs and locals.
 pub fn build_netlist(
     rows: &[Row],
-    statics: &[Both],
+    statics: &[Entry],
     cells: &mut [u64],
     inputs: u16,
     signals: u16,

@@ -27,7 +27,7 @@ use Rattle.netlist_entries.specs.Cells.{Handed}
 use Rattle.netlist_entries.proofs.FileEntries.{filed_refused}
 use Rattle.netlist_entries.proofs.CellEntries.{handed_refused}
 use Rattle.compile_entries.specs.Compile.{sheet_net, Written, Listed}
-use Rattle.sets.specs.declared.Both.{Both}
+use Rattle.sets.specs.declared.Entry.{Entry}
 use Rattle.sheet.specs.declared.Row.{Row}
 
 -- an accepted sheet has no more cells than there may be
@@ -45,7 +45,7 @@ module _ {s : List ℕ} {f : Fault} (was : Checks s (faulty f)) where
   listed_refused = record { outcome = faulty f; checks = was; handed = handed_refused }
 
 -- the compiled cells are a well-formed netlist, that of the sheet, and the column has their words
-module _ {s : List ℕ} {rows : List Row} {statics : List Both} {cells : List ℕ} {c : Counts} {n : ℕ} (a : Compiled_as s c n rows statics cells) where
+module _ {s : List ℕ} {rows : List Row} {statics : List Entry} {cells : List ℕ} {c : Counts} {n : ℕ} (a : Compiled_as s c n rows statics cells) where
   few : length (sheet_netlist a.read) ≤ max_cells
   few = accepted_few a.accepts
 

@@ -3,7 +3,7 @@
 
 ghost use Rattle.compile_entries.specs.Compile.{Written, Listed};
 
-use sets::Both;
+use sets::Entry;
 use sheet::Row;
 use verdicts::{Answer, Listing};
 
@@ -12,7 +12,7 @@ pub fn compile(s: &[u8], buffer: &mut [u8]) -> Answer
     ensures { Written s.now result buffer.old buffer.new }
 {
     let mut rows = [Row::empty(); limits::MAX_STATEMENTS];
-    let mut statics = [Both::empty(); limits::MAX_STATEMENTS];
+    let mut statics = [Entry::empty(); limits::MAX_STATEMENTS];
     let mut cells = [0u64; limits::MAX_CELLS];
     match compiler::compile(s, &mut rows, &mut statics, &mut cells) {
         Err(f) => verdicts::refusal(f),
@@ -31,7 +31,7 @@ pub fn compile_cells(s: &[u8], words: &mut [u64]) -> Listing
     ensures { Listed s.now result words.old words.new }
 {
     let mut rows = [Row::empty(); limits::MAX_STATEMENTS];
-    let mut statics = [Both::empty(); limits::MAX_STATEMENTS];
+    let mut statics = [Entry::empty(); limits::MAX_STATEMENTS];
     let mut cells = [0u64; limits::MAX_CELLS];
     match compiler::compile(s, &mut rows, &mut statics, &mut cells) {
         Err(f) => verdicts::with_signals(verdicts::refusal(f), 0, 0),

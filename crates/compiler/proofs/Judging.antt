@@ -16,6 +16,7 @@ use Rattle.sheet.specs.Stmt.{Stmt}
 use Rattle.sheet.specs.Read.{Sheet}
 use Rattle.sheet.proofs.Notions.{proper_exits}
 use Rattle.sets.specs.declared.Both.{Both}
+use Rattle.sets.specs.declared.Entry.{Entry}
 use Rattle.sets.specs.Faults.{instant, twice}
 use Rattle.sets.specs.Words.{Stands, Kept, Filled}
 use Rattle.sets.proofs.Bounds.{exits_low}
@@ -46,17 +47,17 @@ module _ {rows : List Row} {c : Counts} {w : Sheet} (is : ReadAs rows c w) where
   stands = record { first = halt_no 0; stmt = w.root; holds = is.holds; small = omega (arith, is.proper.statements); low = exits_low 0 w.root (omega arith) (proper_exits is.proper) }
 
   -- the column that was filled has the sheet's K and R
-  filled_keeps : {b : Both} {before after : List Both} → max_statements ≤ length before
+  filled_keeps : {b : Both} {before after : List Entry} → max_statements ≤ length before
       → ((s : Stands rows root) → Filled root s.stmt b before after)
       → Kept after root w.root
   unfolding stands
   filled_keeps {before = before} room fills =
-      subst (λ (l : List Both). Kept l root w.root) (sym (fills stands).column) (kept_filled before root w.root (omega (arith, is.proper.statements)))
+      subst (λ (l : List Entry). Kept l root w.root) (sym (fills stands).column) (kept_filled before root w.root (omega (arith, is.proper.statements)))
 
-  of_sheet : {ms : List Both} → Kept ms root w.root → OfSheet rows ms c.inputs c.signals w.outputs w.root
+  of_sheet : {ms : List Entry} → Kept ms root w.root → OfSheet rows ms c.inputs c.signals w.outputs w.root
   of_sheet kept = record { proper = rw is.counts is.proper; signals = rw is.counts; holds = is.holds; kept = kept }
 
-  module _ {before after : List Both} {b : Both} (room : max_statements ≤ length before) (fills : (s : Stands rows root) → Filled root s.stmt b before after) where
+  module _ {before after : List Entry} {b : Both} (room : max_statements ≤ length before) (fills : (s : Stands rows root) → Filled root s.stmt b before after) where
     kept : Kept after root w.root
     kept = filled_keeps room fills
 

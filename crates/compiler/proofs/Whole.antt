@@ -26,7 +26,7 @@ use Rattle.compiler.specs.Check.{judged, judge, refused, cyclic, accepted}
 use Rattle.compiler.specs.Compile.{ReadAs, SomeRead, built_of, Judges, JudgesRead, Finishes, found, cycle, Compiles, compiled_of, DidCompile}
 use Rattle.compiler.proofs.Passing.{faulty_sheet, passed}
 use Rattle.std.specs.Prelude.{Result, Ok, Err}
-use Rattle.sets.specs.declared.Both.{Both}
+use Rattle.sets.specs.declared.Entry.{Entry}
 use Rattle.sheet.specs.declared.Row.{Row}
 
 -- the bytes were read as a sheet, which the rows hold
@@ -50,7 +50,7 @@ module _ {s : List ℕ} {before after : List Row} (room : max_statements ≤ len
   sheet_was_read did e = was_read (read_sheet s) refl (rw e at did)
 
 -- a fault of the first eleven
-module _ {s : List ℕ} {rows : List Row} {statics : List Both} {cells : List ℕ} {f : Fault} where
+module _ {s : List ℕ} {rows : List Row} {statics : List Entry} {cells : List ℕ} {f : Fault} where
   pub did_refuse : judge s ≡ faulty f → DidCompile s (Err f) rows statics cells
   unfolding compiled_of
   did_refuse e = record { outcome = faulty f; checks = refused e; answer = refl; columns = λ w z. faulty_sheet z }
@@ -65,7 +65,7 @@ unfolding built_of
 not_built (faulty f) e = cc
 not_built (sheet w) e = cc
 
-pub sheet_refused : {s : List ℕ} {before after rows : List Row} {statics : List Both} {cells : List ℕ} {r : Result Counts Fault} {f : Fault}
+pub sheet_refused : {s : List ℕ} {before after rows : List Row} {statics : List Entry} {cells : List ℕ} {r : Result Counts Fault} {f : Fault}
     → DidSheet (read_sheet s) r before after → r ≡ Err f → DidCompile s (Err f) rows statics cells
 unfolding judge judged
 sheet_refused {s} did e = did_refuse (ap judged (not_read (read_sheet s) (sym e ∙ did.answer)))
@@ -93,11 +93,11 @@ module _ {s : List ℕ} {rows : List Row} {c : Counts} (was : WasRead s rows c) 
   unfolding judge
   judged_sheet = ap judged was.read
 
-  module _ {statics' : List Both} {cells cells' : List ℕ} {r : Result ℕ Fault} (did : JudgesRead rows c r statics' cells cells') where
+  module _ {statics' : List Entry} {cells cells' : List ℕ} {r : Result ℕ Fault} (did : JudgesRead rows c r statics' cells cells') where
     judges : Judges was.w r statics' cells cells'
     judges = did.judges was.w was.is
 
-    pub judge_refused : {f : Fault} {rows : List Row} {statics : List Both} {cells : List ℕ} → r ≡ Err f → DidCompile s (Err f) rows statics cells
+    pub judge_refused : {f : Fault} {rows : List Row} {statics : List Entry} {cells : List ℕ} → r ≡ Err f → DidCompile s (Err f) rows statics cells
     judge_refused e = did_refuse (judged_sheet ∙ not_built (judged (sheet was.w)) (sym e ∙ judges.answer))
 
     module _ {n : ℕ} (built_n : r ≡ Ok n) (room : max_cells ≤ length cells) where

@@ -19,7 +19,7 @@ use Rattle.builder.specs.Netlist.{netlist, sheet_netlist}
 use Rattle.order.specs.Paths.{Lowest, Ordered}
 use Rattle.compiler.specs.Check.{judged, Checks}
 use Rattle.number.specs.declared.Fault.{Fault}
-use Rattle.sets.specs.declared.Both.{Both}
+use Rattle.sets.specs.declared.Entry.{Entry}
 use Rattle.sheet.specs.declared.Row.{Row}
 
 -- the rows and the counts are those of the sheet w
@@ -39,12 +39,12 @@ built_of (sheet w) = Ok (length (sheet_netlist w))
 built_of (faulty f) = Err f
 
 -- the faults 9 to 11 of the sheet w; its K and R are entered in any case, its cells are stored where it has none of those faults
-pub record Judges (w : Sheet) (r : Result ℕ Fault) (statics' : List Both) (cells cells' : List ℕ) : Type 0 where
+pub record Judges (w : Sheet) (r : Result ℕ Fault) (statics' : List Entry) (cells cells' : List ℕ) : Type 0 where
   pub answer : r ≡ built_of (judged (sheet w))
   pub kept : Kept statics' (stmt_no 0) w.root
   pub stored : judged (sheet w) ≡ sheet w → cells' ≡ sets cells 0 (map word (sheet_netlist w))
 
-pub record JudgesRead (rows : List Row) (c : Counts) (r : Result ℕ Fault) (statics' : List Both) (cells cells' : List ℕ) : Type 0 where
+pub record JudgesRead (rows : List Row) (c : Counts) (r : Result ℕ Fault) (statics' : List Entry) (cells cells' : List ℕ) : Type 0 where
   pub judges : (w : Sheet) → ReadAs rows c w → Judges w r statics' cells cells'
 
 -- CYCLE, or an order
@@ -53,7 +53,7 @@ pub data Finishes (cells : List Cell) (c : Counts) : Result (Counts × ℕ) Faul
   cycle : {x : CellNo} → Lowest cells x → Finishes cells c (Err (fault Cycle (of_cell x)))
 
 -- the columns lent are long enough for every sheet that is accepted
-pub record Lent (rows : List Row) (statics : List Both) (cells : List ℕ) : Type 0 where
+pub record Lent (rows : List Row) (statics : List Entry) (cells : List ℕ) : Type 0 where
   pub rows_long : max_statements ≤ length rows
   pub statics_long : length rows ≤ length statics
   pub cells_long : max_cells ≤ length cells
@@ -65,13 +65,13 @@ compiled_of (sheet w) = Ok (counts_of w, length (sheet_netlist w))
 compiled_of (faulty f) = Err f
 
 -- what the columns hold of the sheet w: its rows, its K and R, and its cells
-pub record Compiles (w : Sheet) (rows : List Row) (statics : List Both) (cells : List ℕ) : Type 0 where
+pub record Compiles (w : Sheet) (rows : List Row) (statics : List Entry) (cells : List ℕ) : Type 0 where
   pub holds : Holds rows (stmt_no 0) (halt_no 0) w.root
   pub kept : Kept statics (stmt_no 0) w.root
   pub stored : take (length (sheet_netlist w)) cells ≡ map word (sheet_netlist w)
   pub means : cells_of (take (length (sheet_netlist w)) cells) ≡ sheet_netlist w
 
-pub record DidCompile (s : List ℕ) (r : Result (Counts × ℕ) Fault) (rows : List Row) (statics : List Both) (cells : List ℕ) : Type 0 where
+pub record DidCompile (s : List ℕ) (r : Result (Counts × ℕ) Fault) (rows : List Row) (statics : List Entry) (cells : List ℕ) : Type 0 where
   pub outcome : SheetOutcome
   pub checks : Checks s outcome
   pub answer : r ≡ compiled_of outcome

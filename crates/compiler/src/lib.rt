@@ -8,11 +8,11 @@ ghost use Rattle.cells.specs.Needs.{Closed};
 ghost use Rattle.compiler.specs.Compile.{SomeRead, JudgesRead, Finishes, Lent, DidCompile};
 
 use number::{Fault, Refusal, StmtNo};
-use sets::Both;
+use sets::Entry;
 use sheet::{Counts, Row};
 
 // INSTANT, TWICE and ROOM of the sheet with these rows and counts. Its static sets and its cells go into their columns.
-fn judge(rows: &[Row], statics: &mut [Both], cells: &mut [u64], c: Counts) -> Result<u16, Fault>
+fn judge(rows: &[Row], statics: &mut [Entry], cells: &mut [u64], c: Counts) -> Result<u16, Fault>
     requires { SomeRead rows.now c × (length rows.now ≤ length statics.old) × (max_statements ≤ length statics.old) }
     ensures { JudgesRead rows.now c result statics.new cells.old cells.new }
 {
@@ -41,7 +41,7 @@ fn ordered(cells: &[u64], c: Counts) -> Result<(Counts, u16), Fault>
 pub fn compile(
     s: &[u8],
     rows: &mut [Row],
-    statics: &mut [Both],
+    statics: &mut [Entry],
     cells: &mut [u64],
 ) -> Result<(Counts, u16), Fault>
     requires { Lent rows.old statics.old cells.old }

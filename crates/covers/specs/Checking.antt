@@ -72,12 +72,13 @@ pub record NoneWrong (cells : List Cell) (cover tabled' : List ℕ) : Type 0 whe
   pub each : (k : ℕ) → k < table_count cover → RightTable cells cover k
   pub passed : Tabled cover (table_count cover) (table_count cover) tabled'
 
--- the first table that is wrong
-pub record WrongTable (cells : List Cell) (cover : List ℕ) (place : ℕ) : Type 0 where
+-- the first table that is wrong; those before it are passed
+pub record WrongTable (cells : List Cell) (cover tabled' : List ℕ) (place : ℕ) : Type 0 where
   pub before : (k : ℕ) → k < place → RightTable cells cover k
   pub low : place < table_count cover
   pub here : RightTable cells cover place → ⊥
+  pub passed : Tabled cover (table_count cover) place tabled'
 
 abbrev pub Found : List Cell → List ℕ → List ℕ → Result (Unit {0}) ℕ → Type 0
 Found cells cover tabled' (Ok tt) = NoneWrong cells cover tabled'
-Found cells cover tabled' (Err place) = WrongTable cells cover place
+Found cells cover tabled' (Err place) = WrongTable cells cover tabled' place

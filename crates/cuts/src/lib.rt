@@ -70,9 +70,10 @@ impl Cutter<'_> {
 
     // The net x at a pin waits to be met. The settings that count: "One pin net given twice must carry equal values to count as a setting."
     fn set_pin(&mut self, x: CellNo, word: u16) -> u16
-        requires { IsCell (cells_of self.old.cells.now) x }
+        requires { (of_cell x < length self.old.marks.now) × (of_cell x < length self.old.values.now) }
         ensures kept { Keeps self.old self.new }
         ensures set { PinSet self.old.base self.old.marks.now self.old.values.now x word self.new.marks.now self.new.values.now result }
+        ensures stack { self.new.stack.now ≡ self.old.stack.now }
     {
         let n = x.number() as usize;
         if self.base < self.marks[n] {
@@ -85,10 +86,12 @@ impl Cutter<'_> {
 
     // All pins. Its caller also learns here that there are as many as the array's type says.
     pub fn set_pins(&mut self, cut: [CellNo; Table::PINS]) -> u16
-        requires { AllNew self.old.base self.old.marks.now × ((p : ℕ) → p < pins → IsCell (cells_of self.old.cells.now) (pin_at cut p)) }
+        requires { AllNew self.old.base self.old.marks.now × ((p : ℕ) → p < pins → of_cell (pin_at cut p) < length self.old.marks.now)
+            × ((p : ℕ) → p < pins → of_cell (pin_at cut p) < length self.old.values.now) }
         ensures kept { Keeps self.old self.new }
         ensures pinned { Pinned cut self.old.base self.new.marks.now self.new.values.now pins result }
         ensures long { length cut ≡ pins }
+        ensures stack { self.new.stack.now ≡ self.old.stack.now }
     {
         let mut counts = u16::MAX;
         for (p, x) in cut.iter().enumerate() {

@@ -28,7 +28,7 @@ use Rattle.interpreter.specs.Interpret.{Moment}
 use Rattle.interpreter.specs.Settle.{AgreedAt}
 use Rattle.interpreter.specs.Program.{PreparedAs, Prepares}
 use Rattle.std.specs.Prelude.{Result, Ok, Err}
-use Rattle.sets.specs.declared.Both.{Both}
+use Rattle.sets.specs.declared.Entry.{Entry}
 use Rattle.sheet.specs.declared.Row.{Row}
 
 -- an accepted sheet was read
@@ -41,7 +41,7 @@ unfolding compiled_of
 compiled_refused (faulty g) e = cc
 compiled_refused (sheet w) e = absurd (cc)
 
-pub was_refused : {s : List ℕ} {rows : List Row} {statics : List Both} {cells : List ℕ} {r : Result (Counts × ℕ) Fault} {f : Fault} → DidCompile s r rows statics cells → r ≡ Err f
+pub was_refused : {s : List ℕ} {rows : List Row} {statics : List Entry} {cells : List ℕ} {r : Result (Counts × ℕ) Fault} {f : Fault} → DidCompile s r rows statics cells → r ≡ Err f
     → Checks s (faulty f)
 was_refused {s} did e = subst (Checks s) (compiled_refused did.outcome (sym e ∙ did.answer)) did.checks
 
@@ -49,14 +49,14 @@ ok_same : {A E : Type 0} {a b : A} → ◌≡◌ {A = Result A E} (Ok a) (Ok b) 
 ok_same e = cc
 
 -- .. or a sheet with what the columns hold of it
-pub record Compiled_as (s : List ℕ) (c : Counts) (n : ℕ) (rows : List Row) (statics : List Both) (cells : List ℕ) : Type 0 where
+pub record Compiled_as (s : List ℕ) (c : Counts) (n : ℕ) (rows : List Row) (statics : List Entry) (cells : List ℕ) : Type 0 where
   pub read : Sheet
   pub accepts : Accepted s read
   pub counts : c ≡ counts_of read
   pub count : n ≡ length (sheet_netlist read)
   pub own : Compiles read rows statics cells
 
-module _ {s : List ℕ} {rows : List Row} {statics : List Both} {cells : List ℕ} {c : Counts} {n : ℕ} where
+module _ {s : List ℕ} {rows : List Row} {statics : List Entry} {cells : List ℕ} {c : Counts} {n : ℕ} where
   compiled : (o : SheetOutcome) → Checks s o → Ok (c, n) ≡ compiled_of o
       → ((w : Sheet) → o ≡ sheet w → Compiles w rows statics cells)
       → Compiled_as s c n rows statics cells

@@ -35,10 +35,10 @@ use Rattle.interpreter.specs.Tested.{asks, Covers, Tested}
 use Rattle.interpreter.specs.Program.{PreparedAs, Prepared, MayRun, RanRows, AcceptedRuns, ProgramRuns, ProgramReacts}
 use Rattle.interpreter.proofs.Interpreting.{accepted_proper}
 use Rattle.std.specs.Prelude.{Result, Ok, Err}
-use Rattle.sets.specs.declared.Both.{Both}
+use Rattle.sets.specs.declared.Entry.{Entry}
 use Rattle.sheet.specs.declared.Row.{Row}
 
-module _ {p : Program} {rows : List Row} {statics : List Both} {w : Sheet} (is : PreparedAs p rows statics w) where
+module _ {p : Program} {rows : List Row} {statics : List Entry} {w : Sheet} (is : PreparedAs p rows statics w) where
   pub inputs_few : p.counts.inputs < max_signals
   inputs_few = rw is.counts (omega (arith, (accepted_proper is.accepts).header))
 
@@ -54,7 +54,7 @@ pub record Judged (p : Program) (rows : List Row) (ask : Asked) (n : ℕ) (own f
   pub stop : r ≡ stop_of (verdict passes own fit room n)
 
 module _ {p : Program} {rows : List Row} {ask : Asked} {n : ℕ} {own fit room : Bool} {r : Result (Unit {0}) Fault} (q : Judged p rows ask n own fit room r) where
-  module _ {statics : List Both} {w : Sheet} (is : PreparedAs p rows statics w) where
+  module _ {statics : List Entry} {w : Sheet} (is : PreparedAs p rows statics w) where
     own_events : own ≡ events_ok w.inputs ask.events
     own_events = q.events_asked ∙ ap (λ (c : Counts). events_ok c.inputs ask.events) is.counts
 
@@ -66,7 +66,7 @@ module _ {p : Program} {rows : List Row} {ask : Asked} {n : ℕ} {own fit room :
         ≡ verdict passes own fit room n
     asked_verdict = rw (own_events, fitting, q.room_asked, q.length_asked)
 
-  pub program_stopped : {statics : List Both} {f : Fault} → r ≡ Err f
+  pub program_stopped : {statics : List Entry} {f : Fault} → r ≡ Err f
       → ProgramRuns p rows statics ask
       (record { course = with_state (refusal f) ask.state; signals = ask.signals; states = ask.states })
   program_stopped is_by = record { runs = λ w is. ran_stopped (asked_verdict is ∙ stop_by _ (sym is_by ∙ q.stop)) }
@@ -78,7 +78,7 @@ module _ {p : Program} {rows : List Row} {ask : Asked} {n : ℕ} {own fit room :
     passed : AllPass own fit room
     passed = all_pass own fit room n still
 
-    pub may_run : {statics : List Both} → Prepared p rows statics
+    pub may_run : {statics : List Entry} → Prepared p rows statics
         → MayRun rows (whole p.asks) ask.state ask.events ask.signals ask.states
     may_run k =
         let is = k.is in
@@ -94,7 +94,7 @@ module _ {p : Program} {rows : List Row} {ask : Asked} {n : ℕ} {own fit room :
           room = room_is ask (rw q.length_asked at (sym q.room_asked ∙ passed.room_passes));
         }
 
-    pub program_ran : {statics : List Both} {last : ℕ} {signals' states' : List ℕ}
+    pub program_ran : {statics : List Entry} {last : ℕ} {signals' states' : List ℕ}
         → RanRows rows ask.state ask.events ask.signals signals' ask.states states' last
         → ProgramRuns p rows statics ask
         (record { course = with_state (acceptance p.counts.statements p.cells) last; signals = signals'; states = states' })
@@ -117,7 +117,7 @@ may_tested {rows} {asked} p = record { tested = tested }
     tested a t h = rw (holds_one rows root a (halt_no 0) t p.read.root h p.holds) p.covers
 
 -- What is said of the reactions of the accepted sheet for which a program stands is so of the program's reaction: that the sheet's bytes are answered so, for one.
-pub reacts_as : {p : Program} {rows : List Row} {statics : List Both} {w : Sheet} {state event : ℕ} {r : Reaction} (many : Asked → Told → Type 0)
+pub reacts_as : {p : Program} {rows : List Row} {statics : List Entry} {w : Sheet} {state event : ℕ} {r : Reaction} (many : Asked → Told → Type 0)
     → ((ask : Asked) (told : Told) → AcceptedRuns w ask told → many ask told) → PreparedAs p rows statics w
     → ProgramReacts p rows statics state event r → Once many state event r
 reacts_as {w = w} many so is did = let once = did.reacts w is in record { told = once.told; ran = so _ _ once.ran; is = once.is }

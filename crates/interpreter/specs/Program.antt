@@ -22,11 +22,11 @@ use Rattle.verdicts.specs.Runs.{Asked, Told, needed, has_room, Runs, Once}
 use Rattle.interpreter.specs.declared.Program.{Program}
 use Rattle.interpreter.specs.Interpret.{Moment}
 use Rattle.interpreter.specs.Tested.{asks, Covers, Tested}
-use Rattle.sets.specs.declared.Both.{Both}
+use Rattle.sets.specs.declared.Entry.{Entry}
 use Rattle.sheet.specs.declared.Row.{Row}
 
 -- the program p, with the columns of its rows and of its static sets, stands for the sheet w, which was accepted
-pub record PreparedAs (p : Program) (rows : List Row) (statics : List Both) (w : Sheet) : Type 0 where
+pub record PreparedAs (p : Program) (rows : List Row) (statics : List Entry) (w : Sheet) : Type 0 where
   pub bytes : List ℕ
   pub accepts : Accepted bytes w
   pub counts : p.counts ≡ counts_of w
@@ -35,7 +35,7 @@ pub record PreparedAs (p : Program) (rows : List Row) (statics : List Both) (w :
   pub kept : Kept statics root w.root
   pub covers : Covers (whole p.asks) (asks w.root)
 
-pub record Prepared (p : Program) (rows : List Row) (statics : List Both) : Type 0 where
+pub record Prepared (p : Program) (rows : List Row) (statics : List Entry) : Type 0 where
   pub read : Sheet
   pub is : PreparedAs p rows statics read
 
@@ -68,8 +68,8 @@ AcceptedRuns w ask told =
     (verdict passes (events_ok w.inputs ask.events) (fits (has ask.state) w.root) (has_room ask) (needed ask)) ask told
 
 -- those of the program, for the sheet that it stands for
-pub record ProgramRuns (p : Program) (rows : List Row) (statics : List Both) (ask : Asked) (told : Told) : Type 0 where
+pub record ProgramRuns (p : Program) (rows : List Row) (statics : List Entry) (ask : Asked) (told : Told) : Type 0 where
   pub runs : (w : Sheet) → PreparedAs p rows statics w → AcceptedRuns w ask told
 
-pub record ProgramReacts (p : Program) (rows : List Row) (statics : List Both) (state event : ℕ) (r : Reaction) : Type 0 where
+pub record ProgramReacts (p : Program) (rows : List Row) (statics : List Entry) (state event : ℕ) (r : Reaction) : Type 0 where
   pub reacts : (w : Sheet) → PreparedAs p rows statics w → Once (AcceptedRuns w) state event r

@@ -13,7 +13,7 @@ ghost use Rattle.interpreter.specs.Program.{Prepared, Prepares, MayRun, RanRows,
 use bits::Bits;
 use number::{SignalNo, StmtNo};
 use rules::Yield;
-use sets::Both;
+use sets::Entry;
 use sheet::{Binary, Counts, Head, Row, Unary};
 use verdicts::{Course, Reaction};
 
@@ -135,7 +135,7 @@ pub fn moments(
 fn run_from(
     p: Program,
     rows: &[Row],
-    statics: &[Both],
+    statics: &[Entry],
     state: Bits,
     fit: bool,
     events: &[u64],
@@ -164,7 +164,7 @@ fn run_from(
 pub fn react_many(
     p: Program,
     rows: &[Row],
-    statics: &[Both],
+    statics: &[Entry],
     state: Bits,
     events: &[u64],
     emissions: &mut [u64],
@@ -180,7 +180,7 @@ pub fn react_many(
 }
 
 // The reaction of a program that was made ready to one event: a run over it. The state fits, and so does the next one, so that nothing has to ask it again.
-pub fn react(p: Program, rows: &[Row], statics: &[Both], state: Bits, event: Bits) -> Reaction
+pub fn react(p: Program, rows: &[Row], statics: &[Entry], state: Bits, event: Bits) -> Reaction
     requires { Prepared p rows.now statics.now × Fitted rows.now (whole state) true }
     ensures program_reacts { ProgramReacts p rows.now statics.now (whole state) (whole event) result }
     ensures fitted { Fitted rows.now (whole result.state) true }

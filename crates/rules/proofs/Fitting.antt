@@ -31,18 +31,18 @@ use Rattle.rules.specs.Rules.{Halts, active}
 use Rattle.rules.specs.States.{no_halts_from, may_end, apart, fits}
 use Rattle.rules.specs.Words.{halts_in, sides_fit, Runnable, Inside, Known, PartsFit, ToldApart, root, KnownRoot, Fitted}
 use Rattle.rules.proofs.Walks.{holds_one, run_one, run_left, run_right, inside_few, run_proper}
-use Rattle.sets.specs.declared.Both.{Both}
+use Rattle.sets.specs.declared.Entry.{Entry}
 use Rattle.sheet.specs.declared.Row.{Row}
 
 -- what is known of a statement that the rows hold at m is known of what can be run there
-known_at : {rows : List Row} {statics : List Both} {m : StmtNo} (r : Runnable rows m) (a : HaltNo) (t : Stmt) → Holds rows m a t → Low t → Kept statics m t
+known_at : {rows : List Row} {statics : List Entry} {m : StmtNo} (r : Runnable rows m) (a : HaltNo) (t : Stmt) → Holds rows m a t → Low t → Kept statics m t
     → Known rows statics m
 known_at {rows} {statics} {m} r a t h low kept =
     let tree : t ≡ r.stmt = holds_one rows m a r.first t r.stmt h r.holds in
     record { run = r; low = subst Low tree low; kept = subst (λ (x : Stmt). Kept statics m x) tree kept }
 
 -- what is known of the statement at row n is known of its parts
-module _ {rows : List Row} {statics : List Both} {n : StmtNo} (known : Known rows statics n) where
+module _ {rows : List Row} {statics : List Entry} {n : StmtNo} (known : Known rows statics n) where
   abbrev run : Runnable rows n
   run = known.run
 
@@ -108,10 +108,10 @@ module _ (rows : List Row) (n : StmtNo) (w : ℕ) where
       answer a t h = let k = is_one rows n a t h head in rw k.is (part.answer a k.part k.holds)
 
 -- what `may_end` ensures of the statement at row n
-abbrev pub Ends : List Both → StmtNo → Bool → Type 0
+abbrev pub Ends : List Entry → StmtNo → Bool → Type 0
 Ends statics n x = (t : Stmt) → Low t → Entered statics n t → x ≡ (K t 0 || R t 0)
 
-known_ends : {rows : List Row} {statics : List Both} {n : StmtNo} {x : Bool} → Known rows statics n → Ends statics n x → (a : HaltNo) (t : Stmt)
+known_ends : {rows : List Row} {statics : List Entry} {n : StmtNo} {x : Bool} → Known rows statics n → Ends statics n x → (a : HaltNo) (t : Stmt)
     → Holds rows n a t → x ≡ may_end t
 known_ends {statics = statics} {n = n} known ends a t h = let all = known_of known a t h in ends t all.0 (kept_own statics n t all.1)
 
@@ -119,7 +119,7 @@ same_sides : (b : Binary) (p p' q q' x x' y y' : Bool) → p ≡ p' → q ≡ q'
 same_sides b p p' q q' x x' y y' hp hq hx hy = rw (hp, hq, hx, hy)
 
 -- the parts' halts, and whether each part may end
-pub parts_answer : {rows : List Row} {statics : List Both} {m n : StmtNo} {p q x y : Bool} (b : Binary) (w : ℕ) → Known rows statics m × Known rows statics n
+pub parts_answer : {rows : List Row} {statics : List Entry} {m n : StmtNo} {p q x y : Bool} (b : Binary) (w : ℕ) → Known rows statics m × Known rows statics n
     → Inside rows m w p → Inside rows n w q → Ends statics m x → Ends statics n y → PartsFit rows b m n w (sides_fit b p q x y)
 parts_answer {rows} {m = m} {n} {p} {q} {x} {y} b w known in_m in_n ends_m ends_n = record { answer = answer }
   where
@@ -171,7 +171,7 @@ module _ {rows : List Row} (n : StmtNo) {b : Binary} {fit : Bool} (w : ℕ) (hea
           rw (rule a t h k, fits, on) (right.answer (halts_on a (halt_count k.left)) k.right (holds_second rows n a k))
 
 -- a whole sheet has no more halts than a state has bits for
-pub root_past : {rows : List Row} {statics : List Both} → KnownRoot rows statics → of_halt (row_at rows root).past ≤ max_halts
+pub root_past : {rows : List Row} {statics : List Entry} → KnownRoot rows statics → of_halt (row_at rows root).past ≤ max_halts
 root_past k = (inside_few k.known.run).1
 
 -- the whole state
@@ -198,7 +198,7 @@ module _ (rows : List Row) (w : ℕ) where
   fits_apart on none told = record { answer = λ t h. rw (on, spare_bits t h, none) (told.answer (halt_no 0) t h) }
 
 -- A sheet that was read, with its column: what `fits` asks for.
-pub known_proper : {i o : ℕ} {t : Stmt} {rows : List Row} {statics : List Both} → Proper i o t → Holds rows root (halt_no 0) t → Kept statics root t
+pub known_proper : {i o : ℕ} {t : Stmt} {rows : List Row} {statics : List Entry} → Proper i o t → Holds rows root (halt_no 0) t → Kept statics root t
     → KnownRoot rows statics
 unfolding run_proper
 known_proper {t = t} h holds kept =

@@ -18,7 +18,7 @@ use Rattle.sets.specs.Words.{Low, Kept}
 use Rattle.rules.specs.declared.Yield.{Yield}
 use Rattle.rules.specs.Rules.{Signals, Halts, Outcome, idle, start, active, resume}
 use Rattle.rules.specs.States.{halts_of, react, next_state, may_end, apart, fits}
-use Rattle.sets.specs.declared.Both.{Both}
+use Rattle.sets.specs.declared.Entry.{Entry}
 use Rattle.sheet.specs.declared.Row.{Row}
 
 -- the halts in a state
@@ -93,7 +93,7 @@ pub record Inside (rows : List Row) (n : StmtNo) (w : ℕ) (r : Bool) : Type 0 w
   pub answer : (a : HaltNo) (t : Stmt) → Holds rows n a t → r ≡ active (halts_in w) t
 
 -- the column has K and R of the statement at row n and of its parts
-pub record Known (rows : List Row) (statics : List Both) (n : StmtNo) : Type 0 where
+pub record Known (rows : List Row) (statics : List Entry) (n : StmtNo) : Type 0 where
   pub run : Runnable rows n
   pub low : Low run.stmt
   pub kept : Kept statics n run.stmt
@@ -108,7 +108,7 @@ pub record ToldApart (rows : List Row) (n : StmtNo) (w : ℕ) (r : Bool) : Type 
   pub answer : (a : HaltNo) (t : Stmt) → Holds rows n a t → r ≡ apart (halts_in w) t
 
 -- the whole sheet, whose halts are numbered from 0 on
-pub record KnownRoot (rows : List Row) (statics : List Both) : Type 0 where
+pub record KnownRoot (rows : List Row) (statics : List Entry) : Type 0 where
   pub known : Known rows statics root
   pub from_zero : known.run.first ≡ halt_no 0
 

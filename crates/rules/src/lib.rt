@@ -15,7 +15,7 @@ ghost use Rattle.rules.specs.Words.{sides_fit, PartsFit};
 
 use bits::Bits;
 use number::{HaltNo, StmtNo};
-use sets::Both;
+use sets::Entry;
 use sheet::{Binary, Head, Leaf, Row, Unary};
 
 // "A statement yields emissions, a code and halts." A halt stands at its bit of the state. The code has a word of its own, since a struct without gaps is
@@ -290,7 +290,7 @@ fn sides_fit(b: Binary, p: bool, q: bool, ends_p: bool, ends_q: bool) -> bool
 // Whether the parts of a statement of kind b, at rows `first` and `second`, may have the halts that they have.
 fn parts_fit(
     rows: &[Row],
-    statics: &[Both],
+    statics: &[Entry],
     b: Binary,
     first: StmtNo,
     second: StmtNo,
@@ -311,7 +311,7 @@ fn parts_fit(
 }
 
 // What a state that fits keeps apart.
-fn apart(rows: &[Row], statics: &[Both], n: StmtNo, state: Bits) -> bool
+fn apart(rows: &[Row], statics: &[Entry], n: StmtNo, state: Bits) -> bool
     requires { Known rows.now statics.now n }
     ensures { ToldApart rows.now n (whole state) result }
 {
@@ -331,7 +331,7 @@ fn apart(rows: &[Row], statics: &[Both], n: StmtNo, state: Bits) -> bool
 }
 
 // "A state fits when: boot off means 0; only existing halts are set; .."
-pub fn fits(rows: &[Row], statics: &[Both], state: Bits) -> bool
+pub fn fits(rows: &[Row], statics: &[Entry], state: Bits) -> bool
     requires { KnownRoot rows.now statics.now }
     ensures { Fitted rows.now (whole state) result }
 {

@@ -15,9 +15,10 @@ use Rattle.limits.specs.Limits.{max_codes}
 use Rattle.sheet.specs.Stmt.{Stmt, leaf, one, two, size}
 use Rattle.sheet.specs.Read.{further}
 use Rattle.sets.specs.declared.Both.{Both}
+use Rattle.sets.specs.declared.Entry.{Entry}
 use Rattle.sets.specs.Codes.{Codes}
 use Rattle.sets.specs.Static.{K, R}
-use Rattle.sets.specs.Words.{code_span, Low, digit, word_of, no_sets, entry_of, entry_at, filled, Entered, Kept, Means}
+use Rattle.sets.specs.Words.{code_span, Low, digit, word_of, no_sets, entry_of, entry_at, as_entry, filled, Entered, Kept, Means}
 use Rattle.sets.proofs.Words.{by_bits}
 use Rattle.sets.proofs.Bounds.{Bounded, K_low, R_low}
 
@@ -57,12 +58,12 @@ module _ (b : Both) (t : Stmt) (low : Low t) (m : Means b t) where
   pub both_small : (b.k < code_span) × (b.r < code_span)
   both_small = (rw k_is (word_small max_codes (K t)), rw r_is (word_small max_codes (R t)))
 
-  pub entry_is : b ≡ entry_of t
+  pub entry_is : as_entry b ≡ entry_of t
   unfolding entry_of
   entry_is = rw (k_is, r_is)
 
 -- and are read back from it, as codes and no more
-pub entry_means : {statics : List Both} {n : StmtNo} {t : Stmt} → Low t → Entered statics n t
+pub entry_means : {statics : List Entry} {n : StmtNo} {t : Stmt} → Low t → Entered statics n t
     → Means (record { k = (entry_at statics n).k % code_span; r = (entry_at statics n).r % code_span }) t
 unfolding entry_of
 entry_means {statics} {n} {t} low at =
@@ -71,46 +72,46 @@ entry_means {statics} {n} {t} low at =
     let k_same : K_word % code_span ≡ K_word = omega (arith, word_small max_codes (K t)) in
     let r_same : R_word % code_span ≡ R_word = omega (arith, word_small max_codes (R t)) in
     record {
-      starts = ap (λ (x : Both). has (x.k % code_span)) at.entry ∙ (ap has k_same ∙ has_word max_codes (K t) (K_low t low));
-      resumes = ap (λ (x : Both). has (x.r % code_span)) at.entry ∙ (ap has r_same ∙ has_word max_codes (R t) (R_low t low));
+      starts = ap (λ (x : Entry). has (x.k % code_span)) at.entry ∙ (ap has k_same ∙ has_word max_codes (K t) (K_low t low));
+      resumes = ap (λ (x : Entry). has (x.r % code_span)) at.entry ∙ (ap has r_same ∙ has_word max_codes (R t) (R_low t low));
     }
 
 -- filling changes nothing before the statement, nothing past it, nor how many entries there are
-pub length_filled : (statics : List Both) (n : StmtNo) (t : Stmt) → length (filled statics n t) ≡ length statics
+pub length_filled : (statics : List Entry) (n : StmtNo) (t : Stmt) → length (filled statics n t) ≡ length statics
 unfolding filled
 length_filled statics n (leaf l) = length-set statics (of_stmt n) _
 length_filled statics n (one u p) = length-set (filled statics (further n 1) p) (of_stmt n) _ ∙ length_filled statics (further n 1) p
 length_filled statics n (two b p q) =
-    let statics₁ : List Both = filled statics (further n 1) p in
+    let statics₁ : List Entry = filled statics (further n 1) p in
     length-set (filled statics₁ (further n (1 + size p)) q) (of_stmt n) _ ∙ length_filled statics₁ (further n (1 + size p)) q
     ∙ length_filled statics (further n 1) p
 
-pub filled_before : (statics : List Both) (n : StmtNo) (t : Stmt) (j : ℕ) → j < of_stmt n → get_or (filled statics n t) j no_sets ≡ get_or statics j no_sets
+pub filled_before : (statics : List Entry) (n : StmtNo) (t : Stmt) (j : ℕ) → j < of_stmt n → get_or (filled statics n t) j no_sets ≡ get_or statics j no_sets
 unfolding filled
 filled_before statics n (leaf l) j h = get_or-set_other statics (of_stmt n) j _ no_sets (omega arith)
 filled_before statics n (one u p) j h =
     get_or-set_other (filled statics (further n 1) p) (of_stmt n) j _ no_sets (omega arith) ∙ filled_before statics (further n 1) p j (omega arith)
 filled_before statics n (two b p q) j h =
-    let statics₁ : List Both = filled statics (further n 1) p in
+    let statics₁ : List Entry = filled statics (further n 1) p in
     get_or-set_other (filled statics₁ (further n (1 + size p)) q) (of_stmt n) j _ no_sets (omega arith)
     ∙ filled_before statics₁ (further n (1 + size p)) q j (omega arith) ∙ filled_before statics (further n 1) p j (omega arith)
 
-pub filled_past : (statics : List Both) (n : StmtNo) (t : Stmt) (j : ℕ) → of_stmt n + size t ≤ j
+pub filled_past : (statics : List Entry) (n : StmtNo) (t : Stmt) (j : ℕ) → of_stmt n + size t ≤ j
     → get_or (filled statics n t) j no_sets ≡ get_or statics j no_sets
 unfolding filled size
 filled_past statics n (leaf l) j h = get_or-set_other statics (of_stmt n) j _ no_sets (omega arith)
 filled_past statics n (one u p) j h =
     get_or-set_other (filled statics (further n 1) p) (of_stmt n) j _ no_sets (omega arith) ∙ filled_past statics (further n 1) p j (omega arith)
 filled_past statics n (two b p q) j h =
-    let statics₁ : List Both = filled statics (further n 1) p in
+    let statics₁ : List Entry = filled statics (further n 1) p in
     get_or-set_other (filled statics₁ (further n (1 + size p)) q) (of_stmt n) j _ no_sets (omega arith)
     ∙ filled_past statics₁ (further n (1 + size p)) q j (omega arith) ∙ filled_past statics (further n 1) p j (omega arith)
 
 -- to keep the entries of a statement is a claim on its own places alone
-abbrev Agree : List Both → List Both → StmtNo → ℕ → Type 0
+abbrev Agree : List Entry → List Entry → StmtNo → ℕ → Type 0
 Agree statics statics' n k = (j : ℕ) → of_stmt n ≤ j → j < of_stmt n + k → get_or statics' j no_sets ≡ get_or statics j no_sets
 
-pub kept_agree : (statics statics' : List Both) (n : StmtNo) (t : Stmt) → length statics' ≡ length statics → Agree statics statics' n (size t)
+pub kept_agree : (statics statics' : List Entry) (n : StmtNo) (t : Stmt) → length statics' ≡ length statics → Agree statics statics' n (size t)
     → Kept statics n t → Kept statics' n t
 unfolding Kept size
 kept_agree statics statics' n (leaf l) len same h =
@@ -126,19 +127,19 @@ kept_agree statics statics' n (two b p q) len same h = (
 )
 
 -- the entry that was written last
-entered_last : (statics : List Both) (n : StmtNo) (t : Stmt) → of_stmt n < length statics → Entered (set statics (of_stmt n) (entry_of t)) n t
+entered_last : (statics : List Entry) (n : StmtNo) (t : Stmt) → of_stmt n < length statics → Entered (set statics (of_stmt n) (entry_of t)) n t
 entered_last statics n t h =
     record { inside = omega (arith, length-set statics (of_stmt n) (entry_of t)); entry = get_or-set_same statics (of_stmt n) (entry_of t) no_sets h }
 
 -- a column that was filled keeps the statement's entries
-pub kept_filled : (statics : List Both) (n : StmtNo) (t : Stmt) → of_stmt n + size t ≤ length statics → Kept (filled statics n t) n t
+pub kept_filled : (statics : List Entry) (n : StmtNo) (t : Stmt) → of_stmt n + size t ≤ length statics → Kept (filled statics n t) n t
 unfolding filled Kept size
 kept_filled statics n (leaf l) room = entered_last statics n (leaf l) (omega arith)
 kept_filled statics n (one u p) room =
     let n₁ : StmtNo = further n 1 in
-    let statics₁ : List Both = filled statics n₁ p in
+    let statics₁ : List Entry = filled statics n₁ p in
     let len₁ : length statics₁ ≡ length statics = length_filled statics n₁ p in
-    let e : Both = entry_of (one u p) in
+    let e : Entry = entry_of (one u p) in
     let after : Agree statics₁ (set statics₁ (of_stmt n) e) n₁ (size p) =
     λ j x y. get_or-set_other statics₁ (of_stmt n) j e no_sets (omega arith) in (
       entered_last statics₁ n (one u p) (omega arith),
@@ -148,10 +149,10 @@ kept_filled statics n (one u p) room =
 kept_filled statics n (two b p q) room =
     let n₁ : StmtNo = further n 1 in
     let n₂ : StmtNo = further n (1 + size p) in
-    let statics₁ : List Both = filled statics n₁ p in
-    let statics₂ : List Both = filled statics₁ n₂ q in
-    let e : Both = entry_of (two b p q) in
-    let statics₃ : List Both = set statics₂ (of_stmt n) e in
+    let statics₁ : List Entry = filled statics n₁ p in
+    let statics₂ : List Entry = filled statics₁ n₂ q in
+    let e : Entry = entry_of (two b p q) in
+    let statics₃ : List Entry = set statics₂ (of_stmt n) e in
     let len₁ : length statics₁ ≡ length statics = length_filled statics n₁ p in
     let len₂ : length statics₂ ≡ length statics₁ = length_filled statics₁ n₂ q in
     let len₃ : length statics₃ ≡ length statics₂ = length-set statics₂ (of_stmt n) e in

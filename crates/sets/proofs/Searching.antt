@@ -17,6 +17,7 @@ use Rattle.sheet.specs.Read.{further}
 use Rattle.sheet.specs.Rows.{row_at}
 use Rattle.sheet.proofs.Walk.{head_of_lem}
 use Rattle.sets.specs.declared.Both.{Both}
+use Rattle.sets.specs.declared.Entry.{Entry}
 use Rattle.sets.specs.Codes.{Codes}
 use Rattle.sets.specs.Static.{K, R}
 use Rattle.sets.specs.Faults.{or_else, instant, twice}
@@ -29,7 +30,7 @@ use Rattle.sets.proofs.Standing.{OnePart, TwoParts, stands_leaf, stands_one, sta
 use Rattle.std.specs.Prelude.{Option, Some, None}
 use Rattle.sheet.specs.declared.Row.{Row}
 
-pub kept_own : (statics : List Both) (n : StmtNo) (t : Stmt) → Kept statics n t → Entered statics n t
+pub kept_own : (statics : List Entry) (n : StmtNo) (t : Stmt) → Kept statics n t → Entered statics n t
 unfolding Kept
 kept_own statics n (leaf l) h = h
 kept_own statics n (one u p) h = h.0
@@ -68,11 +69,11 @@ led_two_parts F n b p q e =
     ap (λ (x : Bool). pick x (Some n) rest) e
 
 -- a search by f has gone into whatever stands at row m
-abbrev pub Sought : (StmtNo → Stmt → Option StmtNo) → List Row → List Both → StmtNo → Option StmtNo → Type 0
+abbrev pub Sought : (StmtNo → Stmt → Option StmtNo) → List Row → List Entry → StmtNo → Option StmtNo → Type 0
 Sought f rows statics m r = (x : Stands rows m) → Kept statics m x.stmt → r ≡ f m x.stmt
 
 -- the rows and the column of a statement and of its parts
-module _ {rows : List Row} (statics : List Both) {n : StmtNo} (s : Stands rows n) (kept : Kept statics n s.stmt) where
+module _ {rows : List Row} (statics : List Entry) {n : StmtNo} (s : Stands rows n) (kept : Kept statics n s.stmt) where
   own_means : {b : Both} → Reads statics n b → Means b s.stmt
   own_means reads = reads.means s.stmt s.low (kept_own statics n s.stmt kept)
 
@@ -206,7 +207,7 @@ module _ {rows : List Row} (statics : List Both) {n : StmtNo} (s : Stands rows n
         ∙ sym (led_two k no_x second leads left ∙ ap (λ (x : Option StmtNo). or_else x other) is)
 
 -- with nothing to lead to but a loop, that is TWICE
-pub led_empty : (rows : List Row) (statics : List Both) (n : StmtNo) (r : Option StmtNo) → Sought (first_led (has 0)) rows statics n r
+pub led_empty : (rows : List Row) (statics : List Entry) (n : StmtNo) (r : Option StmtNo) → Sought (first_led (has 0)) rows statics n r
     → Sought twice rows statics n r
 led_empty rows statics n r sought s kept =
     sought s kept ∙ ap (λ (F : Codes). first_led F n s.stmt) none_is ∙ led_twice n s.stmt s.low

@@ -13,6 +13,7 @@ use Rattle.sheet.specs.Stmt.{Stmt, leaf, one, two, size}
 use Rattle.sheet.specs.Read.{further}
 use Rattle.sheet.specs.Rows.{stmt_span, Holds}
 use Rattle.sets.specs.declared.Both.{Both}
+use Rattle.sets.specs.declared.Entry.{Entry}
 use Rattle.sets.specs.Codes.{Codes}
 use Rattle.sets.specs.Static.{K, R}
 use Rattle.sheet.specs.declared.Row.{Row}
@@ -50,30 +51,30 @@ word_of zero A = 0
 word_of (suc n) A = digit (A 0) + 2 * word_of n (λ j. A (suc j))
 
 -- what stands at a number whose statement has no entry
-abbrev pub no_sets : Both
+abbrev pub no_sets : Entry
 no_sets = record { k = 0; r = 0 }
 
 -- a statement's entry: a bit for each code of K, and for each of R
-unfoldable pub entry_of : Stmt → Both
+unfoldable pub entry_of : Stmt → Entry
 entry_of t = record { k = word_of max_codes (K t); r = word_of max_codes (R t) }
 
 -- the column with the entries of t and its parts put in, from the number n on
-unfoldable pub filled : List Both → StmtNo → Stmt → List Both
+unfoldable pub filled : List Entry → StmtNo → Stmt → List Entry
 filled statics n (leaf l) = set statics (of_stmt n) (entry_of (leaf l))
 filled statics n (one u p) = set (filled statics (further n 1) p) (of_stmt n) (entry_of (one u p))
 filled statics n (two b p q) = set (filled (filled statics (further n 1) p) (further n (1 + size p)) q) (of_stmt n) (entry_of (two b p q))
 
 -- the entry at n
-abbrev pub entry_at : List Both → StmtNo → Both
+abbrev pub entry_at : List Entry → StmtNo → Entry
 entry_at statics n = get_or statics (of_stmt n) no_sets
 
 -- the column has the entry of t at n ..
-pub record Entered (statics : List Both) (n : StmtNo) (t : Stmt) : Type 0 where
+pub record Entered (statics : List Entry) (n : StmtNo) (t : Stmt) : Type 0 where
   pub inside : of_stmt n < length statics
   pub entry : entry_at statics n ≡ entry_of t
 
 -- .. and those of its parts after it
-unfoldable pub Kept : List Both → StmtNo → Stmt → Type 0
+unfoldable pub Kept : List Entry → StmtNo → Stmt → Type 0
 Kept statics n (leaf l) = Entered statics n (leaf l)
 Kept statics n (one u p) = Entered statics n (one u p) × Kept statics (further n 1) p
 Kept statics n (two b p q) = Entered statics n (two b p q) × Kept statics (further n 1) p × Kept statics (further n (1 + size p)) q
@@ -83,18 +84,22 @@ pub record Means (b : Both) (t : Stmt) : Type 0 where
   pub starts : has b.k ≡ K t
   pub resumes : has b.r ≡ R t
 
--- an entry was written, and handed back
-pub record Wrote (n : StmtNo) (b r : Both) (before after : List Both) : Type 0 where
+-- two words as an entry
+abbrev pub as_entry : Both → Entry
+as_entry b = record { k = b.k; r = b.r }
+
+-- the entry of two words was written, and they were handed back
+pub record Wrote (n : StmtNo) (b r : Both) (before after : List Entry) : Type 0 where
   pub same : r ≡ b
-  pub entry : after ≡ set before (of_stmt n) b
+  pub entry : after ≡ set before (of_stmt n) (as_entry b)
 
 -- what a walk that fills the column answers and leaves
-pub record Filled (n : StmtNo) (t : Stmt) (b : Both) (before after : List Both) : Type 0 where
+pub record Filled (n : StmtNo) (t : Stmt) (b : Both) (before after : List Entry) : Type 0 where
   pub answer : Means b t
   pub column : after ≡ filled before n t
 
 -- what is read at n: sets of codes; K and R, where the entry is that of a statement
-pub record Reads (statics : List Both) (n : StmtNo) (b : Both) : Type 0 where
+pub record Reads (statics : List Entry) (n : StmtNo) (b : Both) : Type 0 where
   pub k_small : b.k < code_span
   pub r_small : b.r < code_span
   pub means : (t : Stmt) → Low t → Entered statics n t → Means b t

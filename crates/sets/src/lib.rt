@@ -28,15 +28,19 @@ pub struct Both {
     pub r: u64,
 }
 
-impl Both {
+// K and R as the column keeps them. All codes have room in 64 bits by far, and a wider entry would cost: each call clears a column of them.
+#[derive(Clone, Copy, Debug, PartialEq, Eq)]
+pub struct Entry {
+    pub k: u32,
+    pub r: u32,
+}
+
+impl Entry {
     // What stands at a number whose statement has no entry.
-    pub fn empty() -> Both
+    pub fn empty() -> Entry
         ensures { result ≡ no_sets }
     {
-        Both {
-            k: bits::EMPTY,
-            r: bits::EMPTY,
-        }
+        Entry { k: 0, r: 0 }
     }
 }
 
@@ -207,16 +211,19 @@ fn two_sets(b: Binary, p: Both, q: Both) -> Both
 }
 
 // Writes the entry of statement n, and hands it back.
-fn entered(statics: &mut [Both], n: StmtNo, b: Both) -> Both
-    requires { of_stmt n < length statics.old }
+fn entered(statics: &mut [Entry], n: StmtNo, b: Both) -> Both
+    requires { (of_stmt n < length statics.old) × (b.k < code_span) × (b.r < code_span) }
     ensures { Wrote n b result statics.old statics.new }
 {
-    statics[n.number() as usize] = b;
+    statics[n.number() as usize] = Entry {
+        k: b.k as u32,
+        r: b.r as u32,
+    };
     b
 }
 
 // K and R of the statement n and of all its parts, in one pass: each goes into the column, where later walks read it.
-pub fn fill(rows: &[Row], statics: &mut [Both], n: StmtNo) -> Both
+pub fn fill(rows: &[Row], statics: &mut [Entry], n: StmtNo) -> Both
     requires { Stands rows.now n × (length rows.now ≤ length statics.old) }
     ensures { (s : Stands rows.now n) → Filled n s.stmt result statics.old statics.new }
 {
@@ -239,19 +246,19 @@ pub fn fill(rows: &[Row], statics: &mut [Both], n: StmtNo) -> Both
 }
 
 // The entry of statement n: whatever the column holds there, sets of codes.
-pub fn sets_of(statics: &[Both], n: StmtNo) -> Both
+pub fn sets_of(statics: &[Entry], n: StmtNo) -> Both
     requires { of_stmt n < length statics.now }
     ensures { Reads statics.now n result }
 {
     let entry = statics[n.number() as usize];
     Both {
-        k: entry.k % CODE_SPAN,
-        r: entry.r % CODE_SPAN,
+        k: u64::from(entry.k) % CODE_SPAN,
+        r: u64::from(entry.r) % CODE_SPAN,
     }
 }
 
 // K or R of statement n: the codes that it may give.
-pub fn given(statics: &[Both], n: StmtNo) -> u64
+pub fn given(statics: &[Entry], n: StmtNo) -> u64
     requires { of_stmt n < length statics.now }
     ensures { (t : Stmt) → Low t → Entered statics.now n t → has result ≡ join (K t) (R t) }
 {
@@ -260,7 +267,7 @@ pub fn given(statics: &[Both], n: StmtNo) -> u64
 }
 
 // Whether statement n has 0 in K or R.
-pub fn may_end(statics: &[Both], n: StmtNo) -> bool
+pub fn may_end(statics: &[Entry], n: StmtNo) -> bool
     requires { of_stmt n < length statics.now }
     ensures { (t : Stmt) → Low t → Entered statics.now n t → result ≡ (K t 0 || R t 0) }
 {
@@ -275,7 +282,7 @@ fn runs_on(u: Unary, k: u64) -> bool
 }
 
 // INSTANT: the first loop at fault in statement n.
-pub fn first_instant(rows: &[Row], statics: &[Both], n: StmtNo) -> Option<StmtNo>
+pub fn first_instant(rows: &[Row], statics: &[Entry], n: StmtNo) -> Option<StmtNo>
     requires { Stands rows.now n × (length rows.now ≤ length statics.now) }
     ensures { (s : Stands rows.now n) → Kept statics.now n s.stmt → result ≡ instant n s.stmt }
 {
@@ -374,7 +381,7 @@ fn is_led(h: Head, r: u64, f: u64) -> bool
 }
 
 // The first X of statement n with a code that leads to the fault, f being the codes that lead there from n.
-fn first_led(rows: &[Row], statics: &[Both], n: StmtNo, f: u64) -> Option<StmtNo>
+fn first_led(rows: &[Row], statics: &[Entry], n: StmtNo, f: u64) -> Option<StmtNo>
     requires { Stands rows.now n × (length rows.now ≤ length statics.now) }
     ensures { (s : Stands rows.now n) → Kept statics.now n s.stmt → result ≡ first_led (has f) n s.stmt }
 {
@@ -401,7 +408,7 @@ fn first_led(rows: &[Row], statics: &[Both], n: StmtNo, f: u64) -> Option<StmtNo
 }
 
 // TWICE: the first parallel or signal statement at fault in statement n.
-pub fn first_twice(rows: &[Row], statics: &[Both], n: StmtNo) -> Option<StmtNo>
+pub fn first_twice(rows: &[Row], statics: &[Entry], n: StmtNo) -> Option<StmtNo>
     requires { Stands rows.now n × (length rows.now ≤ length statics.now) }
     ensures { (s : Stands rows.now n) → Kept statics.now n s.stmt → result ≡ twice n s.stmt }
 {

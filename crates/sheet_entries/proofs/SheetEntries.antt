@@ -19,7 +19,7 @@ use Rattle.verdicts.specs.Runs.{Asked, Told}
 use Rattle.verdicts.proofs.Running.{ran_stopped}
 use Rattle.sheet_entries.specs.Sheets.{reading_of, sheet_verdict, sheet_accepted, Checked, sheet_fits, Fitting, sheet_events, sheet_step, ReactedMany}
 use Rattle.std.specs.Prelude.{Result, Ok, Err}
-use Rattle.sets.specs.declared.Both.{Both}
+use Rattle.sets.specs.declared.Entry.{Entry}
 use Rattle.sheet.specs.declared.Row.{Row}
 
 -- reading alone
@@ -46,7 +46,7 @@ module _ {s : List ℕ} {f : Fault} (was : Checks s (faulty f)) where
   fitting_refused = record { outcome = faulty f; checks = was; answer = refl }
 
 -- an accepted sheet
-module _ {s : List ℕ} {rows : List Row} {statics : List Both} {cells : List ℕ} {c : Counts} {n : ℕ} (a : Compiled_as s c n rows statics cells) where
+module _ {s : List ℕ} {rows : List Row} {statics : List Entry} {cells : List ℕ} {c : Counts} {n : ℕ} (a : Compiled_as s c n rows statics cells) where
   pub counts_are : acceptance c.statements n ≡ sheet_accepted (sheet a.read)
   unfolding sheet_accepted
   counts_are = rw (a.counts, a.count)

@@ -10,7 +10,7 @@ ghost use Rattle.sheet_entries.specs.Sheets.{reading_of, Checked, Fitting, React
 
 use bits::Bits;
 use number::{HaltNo, Refusal};
-use sets::Both;
+use sets::Entry;
 use sheet::Row;
 use verdicts::{Answer, Course, Reaction, Reading};
 
@@ -42,7 +42,7 @@ pub fn check(s: &[u8]) -> Answer
     ensures { Checked s.now result }
 {
     let mut rows = [Row::empty(); limits::MAX_STATEMENTS];
-    let mut statics = [Both::empty(); limits::MAX_STATEMENTS];
+    let mut statics = [Entry::empty(); limits::MAX_STATEMENTS];
     let mut cells = [0u64; limits::MAX_CELLS];
     match compiler::compile(s, &mut rows, &mut statics, &mut cells) {
         Err(f) => verdicts::refusal(f),
@@ -55,7 +55,7 @@ pub fn fits(s: &[u8], state: Bits) -> Answer
     ensures { Fitting s.now (whole state) result }
 {
     let mut rows = [Row::empty(); limits::MAX_STATEMENTS];
-    let mut statics = [Both::empty(); limits::MAX_STATEMENTS];
+    let mut statics = [Entry::empty(); limits::MAX_STATEMENTS];
     let mut cells = [0u64; limits::MAX_CELLS];
     match compiler::compile(s, &mut rows, &mut statics, &mut cells) {
         Err(f) => verdicts::refusal(f),
@@ -76,7 +76,9 @@ pub fn rest(state: Bits) -> bool
     state.member(bits::BOOT) && rules::no_halts_from(state, HaltNo::new(0))
 }
 
-// The reactions of a sheet to many events, by the interpreter.
+// The reactions of a sheet to many events, by the interpreter. Inlined into its callers: as a function of its own it would clear the rows twice, the second
+// time one by one.
+#[inline(always)]
 pub fn react_many(
     s: &[u8],
     state: Bits,
@@ -89,7 +91,7 @@ pub fn react_many(
         (record { course = result; signals = emissions.new; states = states.new }) }
 {
     let mut rows = [Row::empty(); limits::MAX_STATEMENTS];
-    let mut statics = [Both::empty(); limits::MAX_STATEMENTS];
+    let mut statics = [Entry::empty(); limits::MAX_STATEMENTS];
     let mut cells = [0u64; limits::MAX_CELLS];
     match compiler::compile(s, &mut rows, &mut statics, &mut cells) {
         Err(f) => verdicts::with_state(verdicts::refusal(f), state),

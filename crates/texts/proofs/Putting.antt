@@ -1,5 +1,5 @@
 -- The laws of putting texts into a buffer, one behind the other.
-use Prim.Native.Nat.{ℕ, zero, suc, ◌+◌, ◌≤◌, ◌<◌}
+use Prim.Native.Nat.{ℕ, zero, suc, ◌+◌, ◌-◌, ◌≤◌, ◌<◌, min}
 use mathlib.Core.Path.{◌≡◌, refl, sym, ap, ◌∙◌}
 use mathlib.Core.Bool.{Bool, true, false}
 use mathlib.Core.List.{List, [], ◌∷◌, ◌++◌, append_assoc, append-nil}
@@ -8,8 +8,12 @@ use native.Mathlib.Numerals.{add-one}
 use native.Mathlib.Omega.{arith}
 use borrow.Author.Tests.{leb-true, leb-false}
 use lib.Dec.{leb}
-use lib.ListN.{length, take, get_or, set, length-append}
+use lib.ListN.{length, take, drop, get_or, set, length-append}
 use lib.Seq.{sets, set_out, take-suc, take_all, length-take-le, length-sets}
+use Rattle.std.proofs.lemmas.List.{take-append-drop, drop_all}
+use Rattle.std.proofs.lemmas.Slice.{put_mid-paste}
+use borrow.Rule.Slice.PartMut.{put_mid}
+use Rattle.bits.proofs.Columns.{wrote}
 use Rattle.texts.specs.declared.Page.{Page}
 use Rattle.texts.specs.Puts.{Puts, Writes}
 use Rattle.texts.specs.Written.{decimal, in_hex, behind_blanks, row, blank}
@@ -24,6 +28,37 @@ sets_append l at (x ∷ u) v =
 sets_out : (l : List ℕ) (at : ℕ) (v : List ℕ) → length l ≤ at → sets l at v ≡ l
 sets_out l at [] h = refl
 sets_out l at (x ∷ v) h = rw (set_out l at x h) (sets_out l (suc at) v (omega arith))
+
+-- what there is room for, copied at once
+pub copied : (text out : List ℕ) (at : ℕ) {copy : List ℕ} {from n k : ℕ} → from ≡ min at (length out) → n ≡ min (length text) (length out - from) → k ≡ n
+    → copy ≡ take n text → put_mid from k out copy ≡ sets out at text
+copied text out at {copy} {from} {n} {k} is_from is_n is_k same =
+    put_mid-paste from k out copy v n same (sym is_k) (sym long) ∙ wrote out from v n long (omega arith) ∙ by_room (leb at (length out)) refl
+  where
+    v : List ℕ
+    v = take n text
+
+    long : length v ≡ n
+    long = length-take-le n text (omega arith)
+
+    past_n : from ≡ at → sets (sets out at v) (at + length v) (drop n text) ≡ sets out at v
+    past_n is = go (leb (length text) n) refl
+      where
+        go : (b : Bool) → leb (length text) n ≡ b → sets (sets out at v) (at + length v) (drop n text) ≡ sets out at v
+        go true all = rw (drop_all n text (leb-true (length text) n all))
+        go false more =
+            let over = leb-false (length text) n more in
+            sets_out (sets out at v) (at + length v) (drop n text) (omega (arith, length-sets out at v, is, is_n, long, over))
+
+    by_room : (b : Bool) → leb at (length out) ≡ b → sets out from v ≡ sets out at text
+    by_room true inside =
+        let is : from ≡ at = omega (arith, leb-true at (length out) inside) in
+        ap (λ (j : ℕ). sets out j v) is ∙ sym (past_n is) ∙ sym (sets_append out at v (drop n text))
+        ∙ ap (sets out at) (take-append-drop n text)
+    by_room false past =
+        let over = leb-false at (length out) past in
+        let none : n ≡ 0 = omega arith in
+        ap (λ (j : ℕ). sets out from (take j text)) none ∙ sym (sets_out out at text (omega arith))
 
 pub puts_none : (out : List ℕ) (at : ℕ) → at ≤ 18446744073709551615 → Puts [] at at out out
 puts_none out at h = record { past = omega arith; laid = refl }

@@ -7,7 +7,7 @@ ghost use Rattle.texts.specs.Puts.{Puts};
 ghost use Rattle.texts.specs.Reads.{brought, IsLine, NewlineIn, NextLine, Refilled};
 ghost use Rattle.texts.specs.Reads as Reads;
 
-use crate::{Found, Next, Page, Source};
+use crate::{Found, Next, Source};
 use std::io::Read;
 
 // Before the first read.
@@ -62,16 +62,14 @@ fn newline_in(bytes: &[u8]) -> Option<usize>
     bytes.iter().position(|b| *b == b'\n')
 }
 
-// Puts bytes behind those of the line so far.
+// Puts bytes behind those of the line so far: those that there is room for are copied at once.
 fn keep(line: &mut [u8], held: usize, bytes: &[u8]) -> usize
     ensures { Puts bytes.now held result line.old line.new }
 {
-    let mut page = Page {
-        out: line,
-        at: held,
-    };
-    page.bytes(bytes);
-    page.at
+    let from = held.min(line.len());
+    let n = bytes.len().min(line.len() - from);
+    line[from..from + n].copy_from_slice(&bytes[..n]);
+    held.saturating_add(bytes.len())
 }
 
 // Whether there is a line, and whether to go on.

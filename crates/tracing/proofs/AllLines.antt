@@ -33,11 +33,11 @@ use Rattle.tracing.specs.Stands.{Columns, Stands, for_first, Sound, step_of, Lea
 use Rattle.tracing.specs.Output.{dashes, begins, Turn, a_step, anew, Printed, no_line, next_line, Answered}
 use Rattle.tracing.specs.Feeds.{turn_of, Buffers, Feeds, ReadAnswered}
 use Rattle.tracing.proofs.Cut.{cut_turn}
-use Rattle.sets.specs.declared.Both.{Both}
+use Rattle.sets.specs.declared.Entry.{Entry}
 use Rattle.sheet.specs.declared.Row.{Row}
 
 -- a line's answer
-module _ {many : Bool} {t : Trace} {line : List ℕ} {r : Trace} {rows rows' : List Row} {statics statics' : List Both} {p p' : Page} where
+module _ {many : Bool} {t : Trace} {line : List ℕ} {r : Trace} {rows rows' : List Row} {statics statics' : List Entry} {p p' : Page} where
   pub turned_step : begins many line ≡ false → Does (step_of line) t r rows rows' statics statics' p p'
       → Does (turn_of many line) t r rows rows' statics statics' p p'
   turned_step other did =
@@ -80,7 +80,7 @@ turn_short : {many : Bool} {t t' : State} {line text : List ℕ} → Turn many t
 turn_short (a_step other did) = step_short did
 turn_short (anew is) = omega arith
 
-pub turned_short : {many : Bool} {x : State} {line : List ℕ} {r : Trace} {rows' : List Row} {statics' : List Both} {p p' : Page}
+pub turned_short : {many : Bool} {x : State} {line : List ℕ} {r : Trace} {rows' : List Row} {statics' : List Entry} {p p' : Page}
     → Leads (turn_of many line) x r rows' statics' p p' → p'.at ≤ p.at + text_room
 turned_short did = omega (arith, did.written.puts.past, turn_short did.moves)
 
@@ -92,7 +92,7 @@ printed_more (next_line {text = text} {rest = rest} turn p) q = rw (append_assoc
 
 -- What holds after some lines: the text of these is there, and the others are those of the bytes that are still at hand.
 pub record Feeding (many : Bool) (x : State) (s₀ : Source) (bytes text : List ℕ) (p₀ : Page) (now : Fed)
-    (line : List ℕ) (rows : List Row) (statics : List Both) (p : Page)
+    (line : List ℕ) (rows : List Row) (statics : List Entry) (p : Page)
     : Type 0 where
   pub done : List (List ℕ)
   pub output : List ℕ
@@ -105,7 +105,7 @@ pub record Feeding (many : Bool) (x : State) (s₀ : Source) (bytes text : List 
   pub kept : Kept current now.source.held line
   pub written : Writes output p₀ p
 
-none_fed : {many : Bool} {x : State} {now : Fed} {bytes : List ℕ} (text : List ℕ) (rows : List Row) (statics : List Both) (p : Page) {line : List ℕ}
+none_fed : {many : Bool} {x : State} {now : Fed} {bytes : List ℕ} (text : List ℕ) (rows : List Row) (statics : List Entry) (p : Page) {line : List ℕ}
     → p.at ≤ 18446744073709551615 → Stands now.trace rows statics x
     → Kept text now.source.held line → Feeding many x now.source bytes text p now line rows statics p
 none_fed text rows statics p small stands k =
@@ -123,10 +123,10 @@ none_fed text rows statics p small stands k =
     }
 
 module _ {many : Bool} {x : State} {s₀ : Source} {bytes text : List ℕ} {p₀ : Page} {now : Fed}
-    {line : List ℕ} {rows : List Row} {statics : List Both} {p : Page}
+    {line : List ℕ} {rows : List Row} {statics : List Entry} {p : Page}
     (f : Feeding many x s₀ bytes text p₀ now line rows statics p) (same : now.source.ended ≡ s₀.ended) where
   -- a line more
-  line_fed : {n : ℕ} {s' : Source} {t' : Trace} {line' : List ℕ} {rows' : List Row} {statics' : List Both} {p' : Page} → length p₀.out.now ≤ 18446744073709551615
+  line_fed : {n : ℕ} {s' : Source} {t' : Trace} {line' : List ℕ} {rows' : List Row} {statics' : List Entry} {p' : Page} → length p₀.out.now ≤ 18446744073709551615
       → line_room ≤ length line'
       → s'.ended ≡ now.source.ended → LineTaken now.source bytes f.current n s' line'
       → Does (turn_of many (take n line')) now.trace t' rows rows' statics statics' p p'
@@ -166,8 +166,8 @@ module _ {many : Bool} {x : State} {s₀ : Source} {bytes text : List ℕ} {p₀
 
 -- What holds when the loop over the lines is reached: the buffers keep their lengths, what is still at hand has room, and the trace
 -- stands for some state.
-pub record Rounds (many : Bool) (from : Fed) (bytes line₀ : List ℕ) (rows₀ : List Row) (statics₀ : List Both) (p₀ : Page) (now : Fed)
-    (line : List ℕ) (rows : List Row) (statics : List Both) (p : Page) : Type 0 where
+pub record Rounds (many : Bool) (from : Fed) (bytes line₀ : List ℕ) (rows₀ : List Row) (statics₀ : List Entry) (p₀ : Page) (now : Fed)
+    (line : List ℕ) (rows : List Row) (statics : List Entry) (p : Page) : Type 0 where
   pub long_line : length line ≡ length line₀
   pub long_rows : length rows ≡ length rows₀
   pub long_statics : length statics ≡ length statics₀
@@ -179,7 +179,7 @@ pub record Rounds (many : Bool) (from : Fed) (bytes line₀ : List ℕ) (rows₀
   pub fed : (x : State) (text : List ℕ) → Stands from.trace rows₀ statics₀ x → Kept text from.source.held line₀
       → Feeding many x from.source bytes text p₀ now line rows statics p
 
-pub no_round : (many : Bool) (from : Fed) (bytes line : List ℕ) (rows : List Row) (statics : List Both) (p : Page) → p.at ≤ 18446744073709551615
+pub no_round : (many : Bool) (from : Fed) (bytes line : List ℕ) (rows : List Row) (statics : List Entry) (p : Page) → p.at ≤ 18446744073709551615
     → Sound from.trace rows statics → Rounds many from bytes line rows statics p from line rows statics p
 no_round many from bytes line rows statics p small sound =
     record {
@@ -194,8 +194,8 @@ no_round many from bytes line rows statics p small sound =
       fed = λ x text stands k. none_fed text rows statics p small stands k;
     }
 
-module _ {many : Bool} {from : Fed} {bytes line₀ : List ℕ} {rows₀ : List Row} {statics₀ : List Both} {p₀ : Page} {now : Fed}
-    {line : List ℕ} {rows : List Row} {statics : List Both} {p : Page} (r : Rounds many from bytes line₀ rows₀ statics₀ p₀ now line rows statics p) where
+module _ {many : Bool} {from : Fed} {bytes line₀ : List ℕ} {rows₀ : List Row} {statics₀ : List Entry} {p₀ : Page} {now : Fed}
+    {line : List ℕ} {rows : List Row} {statics : List Entry} {p : Page} (r : Rounds many from bytes line₀ rows₀ statics₀ p₀ now line rows statics p) where
   -- the columns are as long as they were
   pub columns_still : Columns rows₀ statics₀ → Columns rows statics
   columns_still c =
@@ -204,12 +204,12 @@ module _ {many : Bool} {from : Fed} {bytes line₀ : List ℕ} {rows₀ : List R
         statics_long = omega (arith, r.long_rows, r.long_statics, c.statics_long);
       }
 
-module _ {many : Bool} {from : Fed} {bytes line₀ : List ℕ} {rows₀ : List Row} {statics₀ : List Both} {p₀ : Page} {now : Fed}
-    {line : List ℕ} {rows : List Row} {statics : List Both} {p : Page}
+module _ {many : Bool} {from : Fed} {bytes line₀ : List ℕ} {rows₀ : List Row} {statics₀ : List Entry} {p₀ : Page} {now : Fed}
+    {line : List ℕ} {rows : List Row} {statics : List Entry} {p : Page}
     (r : Rounds many from bytes line₀ rows₀ statics₀ p₀ now line rows statics p) {n : Next} {line' : List ℕ}
     (looked : NextLine now.source bytes n line line') (small : length line₀ ≤ 18446744073709551615) where
   -- a line more
-  pub round : {len : ℕ} {t' : Trace} {rows' : List Row} {statics' : List Both} {p' : Page} → n.found ≡ Line len → line_room ≤ length line₀
+  pub round : {len : ℕ} {t' : Trace} {rows' : List Row} {statics' : List Entry} {p' : Page} → n.found ≡ Line len → line_room ≤ length line₀
       → length p₀.out.now ≤ 18446744073709551615
       → length line' ≡ length line → length rows' ≡ length rows → length statics' ≡ length statics
       → Does (turn_of many (take len line')) now.trace t' rows rows' statics statics' p p'
@@ -254,7 +254,7 @@ module _ {many : Bool} {from : Fed} {bytes line₀ : List ℕ} {rows₀ : List R
   counted_text room = prefix_len_of_le p.at p.out.now (omega (arith, r.few, r.long_out, few_remaining from.source bytes))
 
 -- the buffers are as long as they were
-pub buffers_still : {line₀ : List ℕ} {rows₀ : List Row} {statics₀ : List Both} {line : List ℕ} {rows : List Row} {statics : List Both} → Buffers line₀ rows₀ statics₀ → length line ≡ length line₀
+pub buffers_still : {line₀ : List ℕ} {rows₀ : List Row} {statics₀ : List Entry} {line : List ℕ} {rows : List Row} {statics : List Entry} → Buffers line₀ rows₀ statics₀ → length line ≡ length line₀
     → length rows ≡ length rows₀
     → length statics ≡ length statics₀ → Buffers line rows statics
 buffers_still b l r s =
@@ -264,11 +264,11 @@ buffers_still b l r s =
     }
 
 -- before the first line
-pub sound_first : {rows : List Row} {statics : List Both} → Sound Sheet rows statics
+pub sound_first : {rows : List Row} {statics : List Entry} → Sound Sheet rows statics
 sound_first = record { state = first; stands = for_first }
 
 -- one read, and its lines
-pub read_answered : {many : Bool} {from r : Fed} {source : Source} {bytes line line' : List ℕ} {rows rows' : List Row} {statics statics' : List Both} {p p' : Page}
+pub read_answered : {many : Bool} {from r : Fed} {source : Source} {bytes line line' : List ℕ} {rows rows' : List Row} {statics statics' : List Entry} {p p' : Page}
     → Refilled from.source source bytes
     → ((x : State) (text : List ℕ) → Stands from.trace rows statics x → Kept text source.held line
     → Feeds many x source bytes text r rows' statics' line' (record p { at = 0 }) p')
@@ -278,7 +278,7 @@ read_answered {source = source} refilled fed =
     record { source = source; refilled = refilled; fed = λ x text stands k. fed x text stands (rw same k) }
 
 -- all bytes at once
-pub all_answered : {input : List ℕ} {s : Source} {r : Fed} {line' : List ℕ} {rows' : List Row} {statics' : List Both} {p p' : Page} {out out' : List ℕ} {n : ℕ}
+pub all_answered : {input : List ℕ} {s : Source} {r : Fed} {line' : List ℕ} {rows' : List Row} {statics' : List Entry} {p p' : Page} {out out' : List ℕ} {n : ℕ}
     → s ≡ record { from = 0; end = length input; held = 0; ended = true } → p.at ≡ 0 → p.out.now ≡ out → p'.out.now ≡ out' → p'.at ≡ n
     → Feeds false first s input [] r rows' statics' line' p p' → Answered input n out out'
 unfolding at_hand

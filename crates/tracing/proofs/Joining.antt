@@ -13,7 +13,7 @@ use Rattle.tracing.specs.Steps.{State, first, stopped, after_stop}
 use Rattle.tracing.specs.Output.{Printed, no_line, next_line, a_step, Traced}
 use Rattle.tracing.specs.Feeds.{Feeds, InReads, last_read, read_more, stopped_there, all_read}
 use Rattle.tracing.proofs.AllLines.{printed_more}
-use Rattle.sets.specs.declared.Both.{Both}
+use Rattle.sets.specs.declared.Entry.{Entry}
 use Rattle.sheet.specs.declared.Row.{Row}
 
 -- after a stop no line prints anything
@@ -44,7 +44,7 @@ pub all_reads : {reads : List (List ℕ)} {output : List ℕ} → InReads first 
 all_reads r = let all = prints_all r in record { last = all.last; printed = all.printed }
 
 -- what `feed` ensures is such a read: the last, or one more
-module _ {x : State} {s : Source} {bytes text : List ℕ} {r : Fed} {rows' : List Row} {statics' : List Both} {line' : List ℕ} {p p' : Page}
+module _ {x : State} {s : Source} {bytes text : List ℕ} {r : Fed} {rows' : List Row} {statics' : List Entry} {line' : List ℕ} {p p' : Page}
     (f : Feeds false x s bytes text r rows' statics' line' p p') where
   printed_so : {b : Bool} → s.ended ≡ b → Printed false x (lines_in b text (at_hand s bytes)) f.next f.output
   printed_so is = subst (λ (b : Bool). Printed false x (lines_in b text (at_hand s bytes)) f.next f.output) is f.printed

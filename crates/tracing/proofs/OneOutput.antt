@@ -20,7 +20,7 @@ use Rattle.tracing.specs.Stands.{Stands, step_of, Does}
 use Rattle.tracing.specs.Texts.{ok_text, refused_text}
 use Rattle.tracing.specs.Output.{Turn, a_step, anew, Printed, no_line, next_line, Traced, Answered}
 use Rattle.std.specs.Prelude.{Some, None}
-use Rattle.sets.specs.declared.Both.{Both}
+use Rattle.sets.specs.declared.Entry.{Entry}
 use Rattle.sheet.specs.declared.Row.{Row}
 
 pub record SameStep (t t' : State) (x x' : List ℕ) : Type 0 where
@@ -108,15 +108,15 @@ one_step stopped after_stop after_stop = same
 
 -- so the contract of a step leaves open only how the code keeps its state: two answers stand for one state, and place and buffer are the
 -- same
-pub record SameAnswer (r r' : Trace) (rows : List Row) (statics : List Both) (rows' : List Row) (statics' : List Both) (p p' : Page) : Type 0 where
+pub record SameAnswer (r r' : Trace) (rows : List Row) (statics : List Entry) (rows' : List Row) (statics' : List Entry) (p p' : Page) : Type 0 where
   pub state : State
   pub one : Stands r rows statics state
   pub other : Stands r' rows' statics' state
   pub place : p.at ≡ p'.at
   pub buffer : p.out.now ≡ p'.out.now
 
-pub one_stepped : {t : Trace} (x : State) (line : List ℕ) {rows : List Row} {statics : List Both} {p : Page} {r r' : Trace}
-    {rows₁ rows₂ : List Row} {statics₁ statics₂ : List Both} {p₁ p₂ : Page}
+pub one_stepped : {t : Trace} (x : State) (line : List ℕ) {rows : List Row} {statics : List Entry} {p : Page} {r r' : Trace}
+    {rows₁ rows₂ : List Row} {statics₁ statics₂ : List Entry} {p₁ p₂ : Page}
     → Stands t rows statics x → Does (step_of line) t r rows rows₁ statics statics₁ p p₁
     → Does (step_of line) t r' rows rows₂ statics statics₂ p p₂ → SameAnswer r r' rows₁ statics₁ rows₂ statics₂ p₁ p₂
 one_stepped x line stands a b =

@@ -24,7 +24,7 @@ use Rattle.tracing.specs.declared.Trace.TheVariants.{Event, Nothing}
 use Rattle.tracing.specs.Texts.{ok_text, refused_text}
 use Rattle.tracing.specs.Steps.{Headed}
 use Rattle.tracing.specs.Stands.{Prints, Ready, Opens, not_opened, is_opened}
-use Rattle.sets.specs.declared.Both.{Both}
+use Rattle.sets.specs.declared.Entry.{Entry}
 use Rattle.sheet.specs.declared.Row.{Row}
 
 -- no refusal has the number 0
@@ -53,7 +53,7 @@ refusal_positive Line = omega arith
 refusal_positive States = omega arith
 
 -- a sheet that is refused
-pub opens_none : {s : List ℕ} {f : Fault} {r : Trace} {rows : List Row} {statics : List Both} {p p' : Page} → Checks s (faulty f)
+pub opens_none : {s : List ℕ} {f : Fault} {r : Trace} {rows : List Row} {statics : List Entry} {p p' : Page} → Checks s (faulty f)
     → Prints Nothing (refused_text (refusal_no f.refusal) f.place) r p p' → Opens s r rows statics p p'
 opens_none {f = f} was w = not_opened {a = refusal f} (checked_refused was) (refusal_positive f.refusal) w
 
@@ -63,7 +63,7 @@ headed {w = w} (accepted order is ordered) inputs outputs =
     record { read_as = w; is = (judged_read is).read; inputs_are = inputs; outputs_are = outputs }
 
 -- one that is accepted is ready
-pub opens_sheet : {s : List ℕ} {rows : List Row} {statics : List Both} {cells : List ℕ} {c : Counts} {n : ℕ} {k : Running} {r : Trace} {p p' : Page}
+pub opens_sheet : {s : List ℕ} {rows : List Row} {statics : List Entry} {cells : List ℕ} {c : Counts} {n : ℕ} {k : Running} {r : Trace} {p p' : Page}
     → Compiled_as s c n rows statics cells
     → Ready rows c n k → Prints (Event k) (ok_text c.statements n) r p p' → Opens s r rows statics p p'
 opens_sheet {c = c} {n = n} a t w =

@@ -33,11 +33,11 @@ use Rattle.tracing.specs.Steps.{sheet_malformed, sheet_refused, sheet_accepted, 
 use Rattle.tracing.specs.Stands.{Holding, Stands, for_first, for_running, for_stopped, Sound}
 use Rattle.tracing.specs.Stands.{Prints, Moves, Opens, not_opened, is_opened, Move, step_of, Leads, Does}
 use Rattle.std.specs.Prelude.{Option, Some, None}
-use Rattle.sets.specs.declared.Both.{Both}
+use Rattle.sets.specs.declared.Entry.{Entry}
 use Rattle.sheet.specs.declared.Row.{Row}
 
 -- which state a trace stands for
-module _ {move : Move} {r : Trace} {rows rows' : List Row} {statics statics' : List Both} {p p' : Page} where
+module _ {move : Move} {r : Trace} {rows rows' : List Row} {statics statics' : List Entry} {p p' : Page} where
   from_first : Leads move first r rows' statics' p p' → Does move ASheet r rows rows' statics statics' p p'
   from_first did = record { from = λ x stands. by_state stands }
     where
@@ -58,7 +58,7 @@ module _ {move : Move} {r : Trace} {rows rows' : List Row} {statics statics' : L
       by_state for_stopped = did
 
 -- where an event is awaited a program is ready, and the state fits
-pub sound_ready : {t : Trace} {k : Running} {rows : List Row} {statics : List Both} → Sound t rows statics → t ≡ Event k
+pub sound_ready : {t : Trace} {k : Running} {rows : List Row} {statics : List Entry} → Sound t rows statics → t ≡ Event k
     → Prepared k.program rows statics × Fitted rows (whole k.state) true
 sound_ready {k = k} {rows = rows} {statics = statics} sound is = by_state (rw is at sound.stands)
   where
@@ -66,7 +66,7 @@ sound_ready {k = k} {rows = rows} {statics = statics} sound is = by_state (rw is
     by_state (for_running held) = (record { read = held.read_as; is = held.ready }, held.fit)
 
 -- a line that ends the trace
-stops : {x : State} {line text : List ℕ} {r : Trace} {rows' : List Row} {statics' : List Both} {p p' : Page} → Steps x line stopped text
+stops : {x : State} {line text : List ℕ} {r : Trace} {rows' : List Row} {statics' : List Entry} {p p' : Page} → Steps x line stopped text
     → Prints Nothing text r p p'
     → Leads (step_of line) x r rows' statics' p p'
 stops did w = record { next = stopped; text = _; moves = did; stands = rw w.awaits for_stopped; written = w.written }
@@ -88,7 +88,7 @@ module _ (line : List ℕ) {x : Option ℕ} {buffer buffer' : List ℕ} (few : l
   these : {n : ℕ} → x ≡ Some n → sheet_line line ≡ bytes (take n buffer')
   these is = read_as (were_bytes (rw is at read))
 
-module _ (line : List ℕ) {r : Trace} {rows rows' : List Row} {statics statics' : List Both} {p p' : Page} where
+module _ (line : List ℕ) {r : Trace} {rows rows' : List Row} {statics statics' : List Entry} {p p' : Page} where
   pub first_long : sheet_digits < length line → Prints Nothing bad_text r p p' → Does (step_of line) ASheet r rows rows' statics statics' p p'
   first_long h w = from_first (stops (sheet_malformed (too_long line h)) w)
 
@@ -116,7 +116,7 @@ react_of : {s : List ℕ} {w : Sheet} {state event : ℕ} {r : Reaction} → Acc
     → Once (ReactedMany s) state event r
 react_of was o = record { told = o.told; ran = many_ran was o.ran; is = o.is }
 
-reacted : {k : Running} {rows : List Row} {statics : List Both} {event : ℕ} {r : Reaction} {h : Held}
+reacted : {k : Running} {rows : List Row} {statics : List Entry} {event : ℕ} {r : Reaction} {h : Held}
     → ProgramReacts k.program rows statics (whole k.state) event r
     → Holding k rows statics h → Once (ReactedMany h.sheet) h.state event r
 reacted reacts held = rw held.state (react_of held.accepts (reacts.reacts held.read_as held.ready))
@@ -126,7 +126,7 @@ is_event : (line : List ℕ) {event : Bits} → SetIs (value_of 16 event_digits 
 unfolding event_line
 is_event line read = was_set read
 
-module _ {k : Running} (line : List ℕ) {e : Option Bits} (read : SetIs (value_of 16 event_digits line) e) {t : Trace} {rows : List Row} {statics : List Both}
+module _ {k : Running} (line : List ℕ) {e : Option Bits} (read : SetIs (value_of 16 event_digits line) e) {t : Trace} {rows : List Row} {statics : List Entry}
     {p p' : Page} where
   pub event_bad : e ≡ None → Prints Nothing bad_text t p p' → Does (step_of line) (Event k) t rows rows statics statics p p'
   unfolding event_line
@@ -170,6 +170,6 @@ module _ {k : Running} (line : List ℕ) {e : Option Bits} (read : SetIs (value_
         })
 
 -- after a stop nothing is done
-pub stopped_step : {t : Trace} (line : List ℕ) {rows : List Row} {statics : List Both} {p p' : Page} → t ≡ Nothing → Writes [] p p'
+pub stopped_step : {t : Trace} (line : List ℕ) {rows : List Row} {statics : List Entry} {p p' : Page} → t ≡ Nothing → Writes [] p p'
     → Does (step_of line) t t rows rows statics statics p p'
 stopped_step line is w = rw is (from_stopped (record { next = stopped; text = []; moves = after_stop; stands = for_stopped; written = w }))

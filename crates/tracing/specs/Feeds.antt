@@ -13,7 +13,7 @@ use Rattle.tracing.specs.Sizes.{line_room}
 use Rattle.tracing.specs.Steps.{State, stopped}
 use Rattle.tracing.specs.Stands.{Columns, Stands, Move}
 use Rattle.tracing.specs.Output.{Turn, Printed}
-use Rattle.sets.specs.declared.Both.{Both}
+use Rattle.sets.specs.declared.Entry.{Entry}
 use Rattle.sheet.specs.declared.Row.{Row}
 
 -- a line's answer, in one trace or in many
@@ -29,14 +29,14 @@ goes_on false false (Event k) = true
 goes_on false false Nothing = false
 
 -- the buffers lent are long enough
-pub record Buffers (line : List ℕ) (rows : List Row) (statics : List Both) : Type 0 where
+pub record Buffers (line : List ℕ) (rows : List Row) (statics : List Entry) : Type 0 where
   pub line_long : line_room ≤ length line
   pub columns : Columns rows statics
 
 -- The lines of the bytes at hand were answered from the state x on, and what is left of a line that has not ended is kept; `text` are the
 -- bytes of that line that were kept before.
 pub record Feeds (many : Bool) (x : State) (s : Source) (bytes text : List ℕ) (r : Fed)
-    (rows' : List Row) (statics' : List Both) (line' : List ℕ) (p p' : Page) : Type 0 where
+    (rows' : List Row) (statics' : List Entry) (line' : List ℕ) (p p' : Page) : Type 0 where
   pub next : State
   pub output : List ℕ
   pub printed : Printed many x (lines_in s.ended text (at_hand s bytes)) next output
@@ -47,7 +47,7 @@ pub record Feeds (many : Bool) (x : State) (s : Source) (bytes text : List ℕ) 
 
 -- One read, whose bytes are those of the slice after it, was answered from the page's start on.
 pub record ReadAnswered (many : Bool) (from r : Fed)
-    (bytes line line' : List ℕ) (rows rows' : List Row) (statics statics' : List Both) (p p' : Page) : Type 0 where
+    (bytes line line' : List ℕ) (rows rows' : List Row) (statics statics' : List Entry) (p p' : Page) : Type 0 where
   pub source : Source
   pub refilled : Refilled from.source source bytes
   pub fed : (x : State) (text : List ℕ) → Stands from.trace rows statics x → Kept text from.source.held line

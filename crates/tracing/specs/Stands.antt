@@ -19,7 +19,7 @@ use Rattle.tracing.specs.declared.Trace.{Trace}
 use Rattle.tracing.specs.declared.Trace.TheVariants.{Sheet as ASheet, Event, Nothing}
 use Rattle.tracing.specs.Texts.{ok_text, refused_text, instant_text}
 use Rattle.tracing.specs.Steps.{Held, State, first, running, stopped, Headed, opened, counted, outputs_in, Steps}
-use Rattle.sets.specs.declared.Both.{Both}
+use Rattle.sets.specs.declared.Entry.{Entry}
 use Rattle.sheet.specs.declared.Row.{Row}
 
 -- of the signals that have a bit the set has the outputs, 1+I to I+O
@@ -27,12 +27,12 @@ pub record Outputs (I O set : ℕ) : Type 0 where
   pub these : (j : ℕ) → j < width → has set j ≡ (ltb I j && leb j (I + O))
 
 -- the columns lent are long enough for every sheet
-pub record Columns (rows : List Row) (statics : List Both) : Type 0 where
+pub record Columns (rows : List Row) (statics : List Entry) : Type 0 where
   pub rows_long : max_statements ≤ length rows
   pub statics_long : length rows ≤ length statics
 
 -- the program made ready stands for the sheet, the state fits, and the rest is what is held
-pub record Holding (k : Running) (rows : List Row) (statics : List Both) (h : Held) : Type 0 where
+pub record Holding (k : Running) (rows : List Row) (statics : List Entry) (h : Held) : Type 0 where
   pub read_as : Sheet
   pub accepts : Accepted h.sheet read_as
   pub ready : PreparedAs k.program rows statics read_as
@@ -42,12 +42,12 @@ pub record Holding (k : Running) (rows : List Row) (statics : List Both) (h : He
   pub instants : h.instants ≡ k.instants
 
 -- what the code's state means
-pub data Stands : Trace → List Row → List Both → State → Type 0 where
-  for_first : {rows : List Row} {statics : List Both} → Stands ASheet rows statics first
-  for_running : {k : Running} {rows : List Row} {statics : List Both} {h : Held} → Holding k rows statics h → Stands (Event k) rows statics (running h)
-  for_stopped : {rows : List Row} {statics : List Both} → Stands Nothing rows statics stopped
+pub data Stands : Trace → List Row → List Entry → State → Type 0 where
+  for_first : {rows : List Row} {statics : List Entry} → Stands ASheet rows statics first
+  for_running : {k : Running} {rows : List Row} {statics : List Entry} {h : Held} → Holding k rows statics h → Stands (Event k) rows statics (running h)
+  for_stopped : {rows : List Row} {statics : List Entry} → Stands Nothing rows statics stopped
 
-pub record Sound (t : Trace) (rows : List Row) (statics : List Both) : Type 0 where
+pub record Sound (t : Trace) (rows : List Row) (statics : List Entry) : Type 0 where
   pub state : State
   pub stands : Stands t rows statics state
 
@@ -71,7 +71,7 @@ pub record Ready (rows : List Row) (c : Counts) (n : ℕ) (k : Running) : Type 0
   pub none : k.instants ≡ 0
 
 -- A sheet was opened: what its check answers is printed, and one that is accepted is ready.
-pub data Opens (s : List ℕ) (r : Trace) (rows' : List Row) (statics' : List Both) (p p' : Page) : Type 0 where
+pub data Opens (s : List ℕ) (r : Trace) (rows' : List Row) (statics' : List Entry) (p p' : Page) : Type 0 where
   not_opened : {a : Answer} → Checked s a → 0 < a.number → Prints Nothing (refused_text a.number a.place) r p p'
       → Opens s r rows' statics' p p'
   is_opened : {a : Answer} {k : Running} {I O : ℕ} → Checked s a → a.number ≡ 0 → Headed s I O
@@ -86,12 +86,12 @@ abbrev pub step_of : List ℕ → Move
 step_of line x y text = Steps x line y text
 
 -- The code did such a move: from the state x to one that its own state stands for after it, with the text written on the page.
-pub record Leads (move : Move) (x : State) (r : Trace) (rows' : List Row) (statics' : List Both) (p p' : Page) : Type 0 where
+pub record Leads (move : Move) (x : State) (r : Trace) (rows' : List Row) (statics' : List Entry) (p p' : Page) : Type 0 where
   pub next : State
   pub text : List ℕ
   pub moves : move x next text
   pub stands : Stands r rows' statics' next
   pub written : Writes text p p'
 
-pub record Does (move : Move) (t r : Trace) (rows rows' : List Row) (statics statics' : List Both) (p p' : Page) : Type 0 where
+pub record Does (move : Move) (t r : Trace) (rows rows' : List Row) (statics statics' : List Entry) (p p' : Page) : Type 0 where
   pub from : (x : State) → Stands t rows statics x → Leads move x r rows' statics' p p'

@@ -9,7 +9,7 @@ ghost use Rattle.tracing.specs.Output.{Answered};
 ghost use Rattle.tracing.specs.Feeds.{turn_of, goes_on, Buffers, Feeds, ReadAnswered};
 
 use crate::{Fed, LINE_ROOM, Trace};
-use sets::Both;
+use sets::Entry;
 use sheet::Row;
 use std::io::{Read, Write};
 use texts::{Found, Page};
@@ -25,7 +25,7 @@ fn turn(
     many: bool,
     trace: Trace,
     rows: &mut [Row],
-    statics: &mut [Both],
+    statics: &mut [Entry],
     line: &[u8],
     page: &mut Page,
 ) -> Trace
@@ -68,7 +68,7 @@ pub fn feed(
     bytes: &[u8],
     line: &mut [u8],
     rows: &mut [Row],
-    statics: &mut [Both],
+    statics: &mut [Entry],
     page: &mut Page,
 ) -> Fed
     requires { Buffers line.old rows.old statics.old × Sound from.trace rows.old statics.old }
@@ -99,7 +99,7 @@ pub fn traced(input: &[u8], out: &mut [u8]) -> usize
 {
     let mut line = [0u8; LINE_ROOM];
     let mut rows = [Row::empty(); limits::MAX_STATEMENTS];
-    let mut statics = [Both::empty(); limits::MAX_STATEMENTS];
+    let mut statics = [Entry::empty(); limits::MAX_STATEMENTS];
     let from = Fed {
         trace: Trace::Sheet,
         source: texts::all_read(input),
@@ -126,7 +126,7 @@ fn answer_read<R: Read, W: Write>(
     bytes: &mut [u8],
     line: &mut [u8],
     rows: &mut [Row],
-    statics: &mut [Both],
+    statics: &mut [Entry],
     page: &mut Page,
 ) -> Fed
     requires { Buffers line.old rows.old statics.old × Sound from.trace rows.old statics.old × (text_room * (length bytes.old + 1) ≤ length page.old.out.now) }
@@ -158,7 +158,7 @@ fn answer_reads<R: Read, W: Write>(
     bytes: &mut [u8],
     line: &mut [u8],
     rows: &mut [Row],
-    statics: &mut [Both],
+    statics: &mut [Entry],
     page: &mut Page,
 )
     requires { Buffers line.old rows.old statics.old × (text_room * (length bytes.old + 1) ≤ length page.old.out.now) }
@@ -181,7 +181,7 @@ pub fn serve<R: Read, W: Write>(input: &mut R, output: &mut W, many: bool) {
     let mut bytes = [0u8; READ];
     let mut line = [0u8; LINE_ROOM];
     let mut rows = [Row::empty(); limits::MAX_STATEMENTS];
-    let mut statics = [Both::empty(); limits::MAX_STATEMENTS];
+    let mut statics = [Entry::empty(); limits::MAX_STATEMENTS];
     let mut out = [0u8; OUT];
     let mut page = Page {
         out: &mut out,

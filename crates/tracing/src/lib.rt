@@ -19,7 +19,7 @@ ghost use Rattle.tracing.specs.Stands.{Outputs, Columns, Sound, Prints, Ready, O
 use bits::Bits;
 pub use feeding::{feed, serve, traced};
 use interpreter::Program;
-use sets::Both;
+use sets::Entry;
 use sheet::{Counts, Row};
 use texts::{Page, Source};
 use verdicts::Reaction;
@@ -105,7 +105,7 @@ fn ready(rows: &[Row], c: Counts, n: u16) -> Running
 }
 
 // A sheet: refused, or compiled and made ready.
-fn open_sheet(s: &[u8], rows: &mut [Row], statics: &mut [Both], page: &mut Page) -> Trace
+fn open_sheet(s: &[u8], rows: &mut [Row], statics: &mut [Entry], page: &mut Page) -> Trace
     requires { Columns rows.old statics.old }
     ensures { Opens s.now result rows.new statics.new page.old page.new }
 {
@@ -124,7 +124,7 @@ fn open_sheet(s: &[u8], rows: &mut [Row], statics: &mut [Both], page: &mut Page)
 }
 
 // The sheet's line.
-fn first_line(rows: &mut [Row], statics: &mut [Both], line: &[u8], page: &mut Page) -> Trace
+fn first_line(rows: &mut [Row], statics: &mut [Entry], line: &[u8], page: &mut Page) -> Trace
     requires { Columns rows.old statics.old }
     ensures { Does (step_of line.now) Trace.Sheet result rows.old rows.new statics.old statics.new
         page.old page.new }
@@ -154,7 +154,7 @@ fn instant(k: Running, r: Reaction, page: &mut Page) -> Trace
 }
 
 // An event's line: a reaction of the program that was made ready.
-fn event_line(k: Running, rows: &[Row], statics: &[Both], line: &[u8], page: &mut Page) -> Trace
+fn event_line(k: Running, rows: &[Row], statics: &[Entry], line: &[u8], page: &mut Page) -> Trace
     requires { Prepared k.program rows.now statics.now × Fitted rows.now (whole k.state) true }
     ensures { Does (step_of line.now) (Trace.Event k) result rows.now rows.now statics.now statics.now
         page.old page.new }
@@ -174,7 +174,7 @@ fn event_line(k: Running, rows: &[Row], statics: &[Both], line: &[u8], page: &mu
 pub fn step(
     trace: Trace,
     rows: &mut [Row],
-    statics: &mut [Both],
+    statics: &mut [Entry],
     line: &[u8],
     page: &mut Page,
 ) -> Trace

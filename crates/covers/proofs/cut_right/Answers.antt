@@ -14,6 +14,12 @@ use Rattle.covers.proofs.Cuts.{own_pin, met_pins, passes, fails}
 use Rattle.covers.proofs.Tables.{gate_cell, no_source, no_constant}
 use Rattle.covers.proofs.cut_right.Goals as goal
 
+pub set_pins-counts-requires : goal.set_pins-counts-requires
+set_pins-counts-requires c =
+    let pre = c.requires in
+    let lent = c.args.cutter.now.lent in
+    (pre.0, λ p h. omega (arith, pre.2 p h, lent.wide), λ p h. omega (arith, pre.2 p h, lent.valued))
+
 pub returns-then-cutter-n-clause-right : goal.returns-then-cutter-n-clause-right
 returns-then-cutter-n-clause-right c =
     let pre = c.requires in

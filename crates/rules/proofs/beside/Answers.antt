@@ -12,5 +12,5 @@ returns-then-code-gt1 c =
 pub returns : goal.returns
 returns c =
     let a = c.args in
-    let code = c.max-code.ensures ∙ max_larger a.a.code a.b.code in
-    λ p q ma mb. beside_stays a.a a.b p q ma mb _ _ c.join-emits.ensures code _ c.if-code-gt1.false c.join.ensures
+    let joined = c.max-code.ensures ∙ max_larger a.a.code a.b.code in
+    λ p q ma mb. beside_stays a.a a.b p q ma mb _ _ c.join-emits.ensures joined _ c.if-code-gt1.false c.join.ensures

@@ -3,8 +3,9 @@
 use mathlib.Core.Path.{◌≡◌}
 use native.Mathlib.Omega.{arith}
 use Rattle.sheet.specs.Read.{further}
+use Rattle.sets.proofs.Columns.{both_small}
 use Rattle.sets.proofs.Standing.{head_is, halts_asked, stands_within, stands_number, low_leaf, stands_one, stands_two, second_later}
-use Rattle.sets.proofs.Filling.{one_means, two_means, leaf_filled, one_filled, two_filled}
+use Rattle.sets.proofs.Filling.{leaf_means, one_means, two_means, leaf_filled, one_filled, two_filled}
 use Rattle.sets.proofs.+fill.Goals as goal
 
 pub row_at-row-requires : goal.row_at-row-requires
@@ -19,7 +20,10 @@ leaf_sets-requires t c =
 
 pub entered-requires : goal.entered-requires
 entered-requires t c =
-    omega (arith, stands_within c.requires.0, c.requires.1)
+    let s = c.requires.0 in
+    let head = head_is c.row_at-row.ensures c.in-Zero.is in
+    let small = both_small c.leaf_sets.result s.stmt s.low (leaf_means s head c.leaf_sets.ensures) in
+    (omega (arith, stands_within s, c.requires.1), small.0, small.1)
 
 pub fill-p-requires : goal.fill-p-requires
 fill-p-requires t c =
@@ -30,7 +34,14 @@ fill-p-requires t c =
 
 pub entered-requires-in-One : goal.entered-requires-in-One
 entered-requires-in-One t c =
-    omega (arith, stands_within c.requires.0, c.requires.1, c.fill-p.auto.statics)
+    let s = c.requires.0 in
+    let next = c.first_part-first.ensures in
+    let head = head_is c.row_at-row.ensures c.in-One.is in
+    let halts = halts_asked c.number.ensures c.number-in-One.ensures c.row_at-row.ensures in
+    let went = rw next at c.fill-p.ensures in
+    let own = one_means s head halts went c.one_sets.ensures in
+    let small = both_small c.one_sets.result s.stmt s.low own in
+    (omega (arith, stands_within s, c.requires.1, c.fill-p.auto.statics), small.0, small.1)
 
 pub fill-p-requires-in-Two : goal.fill-p-requires-in-Two
 fill-p-requires-in-Two t c =
@@ -57,7 +68,15 @@ fill-q-requires t c =
 
 pub entered-requires-in-Two : goal.entered-requires-in-Two
 entered-requires-in-Two t c =
-    omega (arith, stands_within c.requires.0, c.requires.1, c.fill-p-in-Two.auto.statics, c.fill-q.auto.statics)
+    let s = c.requires.0 in
+    let next = c.first_part-first.ensures in
+    let head = head_is c.row_at-row.ensures c.in-Two.is in
+    let end = c.second_part.ensures in
+    let first = rw next at c.fill-p-in-Two.ensures in
+    let second = rw end at c.fill-q.ensures in
+    let own = two_means s head first second c.two_sets.ensures in
+    let small = both_small c.two_sets.result s.stmt s.low own in
+    (omega (arith, stands_within s, c.requires.1, c.fill-p-in-Two.auto.statics, c.fill-q.auto.statics), small.0, small.1)
 
 pub returns-in-Zero : goal.returns-in-Zero
 returns-in-Zero t c =

@@ -8,5 +8,5 @@ returns c =
     record {
       k_small = omega arith;
       r_small = omega arith;
-      means = λ t low at. rw c.number.ensures (entry_means low at);
+      means = λ t low at. rw (c.from.ensures, c.from-2.ensures, c.number.ensures) (entry_means low at);
     }

@@ -2,6 +2,7 @@
 use mathlib.Core.Path.{◌≡◌, refl}
 use mathlib.Core.Bool.{true≢false, false≢true}
 use native.Mathlib.Omega.{arith}
+use Rattle.std.proofs.lemmas.List.{length-set}
 use Rattle.cuts.proofs.Keeping.{and_then}
 use Rattle.cuts.proofs.Ways.{begins}
 use Rattle.cuts.proofs.Visits.{went, strayed}
@@ -13,7 +14,19 @@ bounds-self-0 c = omega (arith, c.args.self.now.lent.deep, c.requires.1)
 pub loop-top-init : goal.loop-top-init
 loop-top-init c =
     let pre = c.requires in
-    record { kept = record { cells = refl; base = refl }; going = rw c.number.ensures (begins c.args.self.now.lent pre.3 pre.0 pre.1 pre.2) }
+    record {
+      kept = record {
+        cells = refl;
+        base = refl;
+        marks = refl;
+        values = refl;
+        stack = refl;
+        marks_long = refl;
+        values_long = refl;
+        stack_long = length-set c.args.self.now.stack.now 0 c.number.result;
+      };
+      going = rw c.number.ensures (begins c.args.self.now.lent pre.3 pre.0 pre.1 pre.2);
+    }
 
 pub visit-requires : goal.visit-requires
 visit-requires c =
