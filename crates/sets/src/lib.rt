@@ -28,7 +28,7 @@ pub struct Both {
     pub r: u64,
 }
 
-// K and R as the column keeps them. All codes have room in 64 bits by far, and a wider entry would cost: each call clears a column of them.
+// K and R as the column keeps them. A set of codes has room in 32 bits by far, and wider words would cost: each call clears a column of entries.
 #[derive(Clone, Copy, Debug, PartialEq, Eq)]
 pub struct Entry {
     pub k: u32,
