@@ -3,7 +3,7 @@ use mathlib.Core.Path.{◌≡◌, refl}
 use mathlib.Core.Bool.{true≢false, false≢true}
 use native.Mathlib.Omega.{arith}
 use Rattle.std.proofs.lemmas.List.{length-set}
-use Rattle.cuts.proofs.Keeping.{and_then}
+use Rattle.cuts.proofs.Keeping.{same, and_then}
 use Rattle.cuts.proofs.Ways.{begins}
 use Rattle.cuts.proofs.Visits.{went, strayed}
 use Rattle.cuts.proofs.Cutter.cut_out.Goals as goal
@@ -15,16 +15,7 @@ pub loop-top-init : goal.loop-top-init
 loop-top-init c =
     let pre = c.requires in
     record {
-      kept = record {
-        cells = refl;
-        base = refl;
-        marks = refl;
-        values = refl;
-        stack = refl;
-        marks_long = refl;
-        values_long = refl;
-        stack_long = length-set c.args.self.now.stack.now 0 c.number.result;
-      };
+      kept = record { cells = refl; base = refl; marks = same; values = same; stack = record { lent = refl; long = length-set c.args.self.now.stack.now 0 c.number.result } };
       going = rw c.number.ensures (begins c.args.self.now.lent pre.3 pre.0 pre.1 pre.2);
     }
 

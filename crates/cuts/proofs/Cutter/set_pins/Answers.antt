@@ -14,7 +14,7 @@ set_pin-counts-requires c =
     let kept = c.loop-p.invariant.kept in
     let in_marks = c.requires.1 c.loop-p.p c.loop-p-test.true in
     let in_values = c.requires.2 c.loop-p.p c.loop-p-test.true in
-    (omega (arith, in_marks, kept.marks_long), omega (arith, in_values, kept.values_long))
+    (omega (arith, in_marks, kept.marks.long), omega (arith, in_values, kept.values.long))
 
 pub loop-p-preserved : goal.loop-p-preserved
 loop-p-preserved c =
@@ -25,7 +25,7 @@ loop-p-preserved c =
     record {
       kept = and_then inv.kept set.kept;
       pinned =
-          pinned_more inv.pinned (omega (arith, in_marks, inv.kept.marks_long)) (omega (arith, in_values, inv.kept.values_long))
+          pinned_more inv.pinned (omega (arith, in_marks, inv.kept.marks.long)) (omega (arith, in_values, inv.kept.values.long))
           c.pin_word.ensures (rw inv.kept.base at set.set);
       stack = set.stack ∙ inv.stack;
     }
